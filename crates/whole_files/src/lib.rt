@@ -1,0 +1,10 @@
+//! Reads a whole file from a shelf, and writes a whole text to a sink.
+#![tactic(auto)]
+
+mod read;
+#[cfg(test)]
+mod tests;
+mod write;
+
+pub use read::{Unread, read_file};
+pub use write::write_all;
