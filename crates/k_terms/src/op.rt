@@ -1,0 +1,28 @@
+/// The builtin operators.
+#[derive(Clone, Copy, Debug, PartialEq, Eq, PartialOrd, Ord)]
+pub enum Op {
+    MulInt,
+    DivInt,
+    ModInt,
+    AddInt,
+    SubInt,
+    JoinString,
+    LtInt,
+    LeInt,
+    GtInt,
+    GeInt,
+    EqInt,
+    NeInt,
+    EqK,
+    NeK,
+    InKeys,
+    Not,
+    And,
+    Or,
+    SetKey,
+    GetKey,
+    SizeMap,
+    SizeList,
+    LengthString,
+    IntToString,
+}

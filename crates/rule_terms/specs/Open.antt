@@ -1,0 +1,18 @@
+-- Opens the definitions of rules at closed values, so that a proof computes there: a proof elsewhere writes
+-- `unfolding open_rules`.
+use denote.Hole.Carrier.{out, roll, hidden, shown}
+use Rattle.k_terms.specs.Value.{open_values}
+use Rattle.rule_terms.specs.declared.pattern.Pattern.{out-Pattern}
+use Rattle.rule_terms.specs.declared.pattern.Pattern.TheBlock.{shape-the_row-Pattern-0, hidden-the_row-Pattern-0, shown-the_row-Pattern-0}
+use Rattle.rule_terms.specs.declared.pattern.Body.{out-Body}
+use Rattle.rule_terms.specs.declared.pattern.Body.TheBlock.{shape-the_row-CellPat-0, hidden-the_row-CellPat-0, shown-the_row-CellPat-0}
+use Rattle.rule_terms.specs.declared.plain.Plain.{out-Plain, roll-Plain}
+use Rattle.rule_terms.specs.declared.plain.Plain.TheBlock.{shape-the_row-Plain-0, hidden-the_row-Plain-0, shown-the_row-Plain-0}
+use Rattle.rule_terms.specs.Eval.{eval, eval_row}
+use Rattle.rule_terms.specs.Fill.{fill_body, fill_row}
+use Rattle.rule_terms.specs.Rewriting.{Alike, AllAlike}
+use Rattle.rule_terms.specs.Patterns.{same_pattern, same_row, mentions, row_mentions}
+
+unfoldable pub open_rules : Unit {0}
+unfolding open_values eval eval_row fill_body fill_row Alike AllAlike same_pattern same_row mentions row_mentions out roll hidden shown out-Pattern shape-the_row-Pattern-0 hidden-the_row-Pattern-0 shown-the_row-Pattern-0 out-Body shape-the_row-CellPat-0 hidden-the_row-CellPat-0 shown-the_row-CellPat-0 out-Plain roll-Plain shape-the_row-Plain-0 hidden-the_row-Plain-0 shown-the_row-Plain-0
+open_rules = tt

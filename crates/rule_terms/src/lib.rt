@@ -1,0 +1,12 @@
+//! Rules of a definition, and what it means to rewrite with them by plain substitution.
+#![tactic(auto)]
+
+mod defs;
+mod pattern;
+mod plain;
+mod rule;
+
+pub use defs::{CellShape, Defs, Kind};
+pub use pattern::{Body, CellPat, Pattern};
+pub use plain::Plain;
+pub use rule::{Cond, Draft, Origin, Rule};
