@@ -1,0 +1,4 @@
+mod ReadsLemmas
+mod Terms
+mod Assembled
+mod Values

@@ -1,0 +1,70 @@
+ghost use Rattle.std.specs.Prelude.{◌≡◌, ℕ, List, map, IfSome, IfOk};
+ghost use Rattle.small_form.specs.Program.{term_of, IsTermText};
+
+use crate::reader::Reader;
+use crate::small::Production;
+use crate::term::read_term;
+use k_terms::{Many, Memory, Value, depth};
+use rule_terms::Pattern;
+use std::alloc::Global;
+
+/// The greatest length of a program, in bytes.
+pub const PROGRAM_LIMIT: usize = 4096;
+
+/// The greatest depth of a program's value.
+pub const DEPTH_LIMIT: u32 = 400;
+
+/// The value that a term is, where it has productions alone.
+#[cycle(values)]
+fn value_of(alloc: Global, pattern: &Pattern) -> Result<Option<Value>, Memory>
+    ensures term { IfOk result (λ found. IfSome found (λ v. term_of v ≡ pattern.now)) }
+{
+    let Pattern::Node(production, parts) = pattern else {
+        return Ok(None);
+    };
+    let Some(values) = values_of(alloc, parts.as_slice())? else {
+        return Ok(None);
+    };
+    Ok(Some(Value::Node(*production, Many::from_vec(values))))
+}
+
+#[cycle(values)]
+fn values_of(alloc: Global, patterns: &[Pattern]) -> Result<Option<Vec<Value>>, Memory>
+    ensures terms { IfOk result (λ found. IfSome found (λ vs. map term_of vs.items ≡ patterns.now)) }
+{
+    let mut values = Vec::new(alloc);
+    for pattern in patterns {
+        match value_of(alloc, pattern)? {
+            Some(value) => values.push(value)?,
+            None => return Ok(None),
+        }
+    }
+    Ok(Some(values))
+}
+
+/// Reads a program under these productions; `None` where the text is none.
+pub fn read_program(
+    alloc: Global,
+    productions: &[Production],
+    text: &[u8],
+) -> Result<Option<Value>, Memory>
+    ensures read { IfOk result (λ found. IfSome found (IsTermText productions.now text.now)) }
+{
+    if text.len() > PROGRAM_LIMIT {
+        return Ok(None);
+    }
+    let mut reader = Reader::new(text);
+    let Some(term) = read_term(alloc, productions, &[], &mut reader)? else {
+        return Ok(None);
+    };
+    if !reader.is_finished() {
+        return Ok(None);
+    }
+    let Some(value) = value_of(alloc, &term)? else {
+        return Ok(None);
+    };
+    if depth(&value) > DEPTH_LIMIT {
+        return Ok(None);
+    }
+    Ok(Some(value))
+}
