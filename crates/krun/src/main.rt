@@ -1,0 +1,38 @@
+//! krun reads a definition of a language and a program, rewrites the program by the definition's rules, and prints how
+//! many fired and the configuration reached.
+#![tactic(auto)]
+
+mod job;
+mod outcome;
+mod outside;
+mod report;
+#[cfg(test)]
+mod tests;
+mod texts;
+mod top;
+
+use outcome::Outcome;
+use outside::{FileShelf, StdSink};
+use report::Report;
+use std::alloc::Global;
+use std::process::ExitCode;
+use std::{env, io};
+use top::krun_alone;
+
+fn words(rt: &HostRuntime) -> io::Result<Vec<String>> {
+    let mut words = Vec::new(rt.alloc());
+    for word in env::args(rt)? {
+        words.push(word)?;
+    }
+    Ok(words)
+}
+
+fn main(rt: HostRuntime) -> ExitCode {
+    let Ok(words) = words(&rt) else {
+        return ExitCode::from(outcome::MEMORY);
+    };
+    let mut shelf = FileShelf::new(&rt);
+    let mut sink = StdSink::new(&rt);
+    let report = krun_alone(rt.alloc(), words.as_slice(), &mut shelf, &mut sink);
+    ExitCode::from(report.status)
+}

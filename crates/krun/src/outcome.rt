@@ -1,0 +1,82 @@
+ghost use Rattle.std.specs.Prelude.{◌≡◌};
+ghost use Rattle.krun.specs.Outcome.{status_of, text_of};
+ghost use Rattle.krun.specs.declared.outcome.Outcome.TheVariants.{Memory as WantOfMemory};
+
+use k_terms::Memory;
+
+/// A file that is read.
+#[derive(Clone, Copy, Debug, PartialEq, Eq)]
+pub enum Which {
+    Definition,
+    Program,
+}
+
+/// Why a program was refused: it has no reading, at this byte.
+#[derive(Clone, Copy, Debug, PartialEq, Eq)]
+pub enum ReadRefusal {
+    NoReading { at: usize },
+}
+
+/// How a call of the program ended.
+#[derive(Clone, Copy, Debug, PartialEq, Eq)]
+pub enum Outcome {
+    /// No rule matches the configuration.
+    Final,
+    /// The budget is used up, and a rule still matches.
+    Budget,
+    /// The words are no job.
+    Usage,
+    /// The definition is none that can be run yet.
+    Unbuilt,
+    /// The program was refused.
+    Program(ReadRefusal),
+    /// A file could not be read.
+    ReadFault(Which),
+    /// Memory was wanting.
+    Memory,
+}
+
+impl From<Memory> for Outcome {
+    ghost from_gives = { λ _ e. e ≡ WantOfMemory };
+
+    fn from(_memory: Memory) -> Outcome {
+        Outcome::Memory
+    }
+}
+
+/// The status of the program where memory was wanting.
+pub const MEMORY: u8 = 7;
+
+/// The status of the program where the text could not be written.
+pub const WRITE_FAULT: u8 = 6;
+
+impl Outcome {
+    /// The exit status of the program.
+    pub fn status(self) -> u8
+        ensures { result ≡ status_of self }
+    {
+        match self {
+            Outcome::Final => 0,
+            Outcome::Budget => 1,
+            Outcome::Usage => 2,
+            Outcome::Unbuilt => 3,
+            Outcome::Program(_) => 4,
+            Outcome::ReadFault(_) => 5,
+            Outcome::Memory => MEMORY,
+        }
+    }
+
+    /// The line that a refusal writes. A run writes its own text, and a fault of reading and want of memory write none.
+    pub fn line(self) -> &'static [u8]
+        ensures { result.now ≡ text_of self }
+    {
+        match self {
+            Outcome::Usage => {
+                b"usage: krun MODE DEF [PGM] [TRACE] [--depth N] [--workers N] [--in LIST] [--trace | --waves | --cover]\n"
+            }
+            Outcome::Unbuilt => b"definition 29 Unbuilt\n",
+            Outcome::Program(ReadRefusal::NoReading { .. }) => b"program 13 NoReading at=0\n",
+            _ => b"",
+        }
+    }
+}

@@ -1,0 +1,196 @@
+use crate::outcome::{Outcome, ReadRefusal, Which};
+use crate::report::Report;
+use crate::top::krun_alone;
+use k_edge::{MemShelf, MemSink, SureShelf, SureSink};
+use std::alloc::{AllocError, Global};
+use std::test::Fail;
+
+const TINY: &str = "module TINY
+  syntax Nat ::= z() | s(Nat) | plus(Nat, Nat)
+  configuration <k> $PGM:Nat </k>
+  rule plus(z(), N:Nat) => N
+  rule plus(s(M:Nat), N:Nat) => plus(M, s(N))
+endmodule
+";
+
+const LOOPING: &str =
+    "module L syntax A ::= a() configuration <k> $PGM:A </k> rule a() => a() endmodule";
+
+fn file(alloc: Global, name: &str, text: &str) -> Result<(String, Vec<u8>), AllocError> {
+    Ok((
+        name.to_string(alloc)?,
+        Vec::from_slice(alloc, text.as_bytes())?,
+    ))
+}
+
+/// The two files of a job.
+fn files(
+    alloc: Global,
+    definition: &str,
+    program: &str,
+) -> Result<Vec<(String, Vec<u8>)>, AllocError> {
+    let mut files = Vec::new(alloc);
+    files.push(file(alloc, "d.k", definition)?)?;
+    files.push(file(alloc, "p", program)?)?;
+    Ok(files)
+}
+
+/// The words of a command line.
+fn words(alloc: Global, line: &str) -> Result<Vec<String>, AllocError> {
+    let mut words = Vec::new(alloc);
+    for word in line.split(' ') {
+        words.push(word.to_string(alloc)?)?;
+    }
+    Ok(words)
+}
+
+/// The report of a job over files in memory, of which the calls with these numbers fail, and the bytes that it writes.
+fn report_of(
+    alloc: Global,
+    line: &str,
+    definition: &str,
+    program: &str,
+    failing: Vec<u64>,
+) -> Result<(Report, MemSink), AllocError> {
+    let mut shelf = MemShelf::new(files(alloc, definition, program)?, failing);
+    let mut sink = MemSink::new(alloc, 16, Vec::new(alloc))?;
+    let words = words(alloc, line)?;
+    let report = krun_alone(alloc, words.as_slice(), &mut shelf, &mut sink);
+    Ok((report, sink))
+}
+
+#[test]
+fn runs_and_refuses(rt: HostRuntime) -> Result<(), Fail> {
+    let no_reading = Outcome::Program(ReadRefusal::NoReading { at: 0 });
+    let jobs: [(&str, &str, &str, Outcome, u8, usize); 5] = [
+        (
+            TINY,
+            "plus(s(z()),z())",
+            "Final 2\n<k> s(z()) </k>\n",
+            Outcome::Final,
+            0,
+            2,
+        ),
+        (TINY, "z()", "Final 0\n<k> z() </k>\n", Outcome::Final, 0, 0),
+        (
+            LOOPING,
+            "a()",
+            "Budget 100000\n<k> a() </k>\n",
+            Outcome::Budget,
+            1,
+            100_000,
+        ),
+        (
+            TINY,
+            "plus(z())",
+            "program 13 NoReading at=0\n",
+            no_reading,
+            4,
+            0,
+        ),
+        (
+            "module A endmodule",
+            "z()",
+            "definition 29 Unbuilt\n",
+            Outcome::Unbuilt,
+            3,
+            0,
+        ),
+    ];
+    for (definition, program, text, outcome, status, fired) in jobs {
+        let (report, sink) = report_of(
+            rt.alloc(),
+            "krun run d.k p",
+            definition,
+            program,
+            Vec::new(rt.alloc()),
+        )?;
+        assert_eq!(rt; sink.bytes(), text.as_bytes(), "{program}");
+        assert_eq!(rt; report.outcome, outcome, "{program}");
+        assert_eq!(rt; report.status, status, "{program}");
+        assert_eq!(rt; report.fired.len(), fired, "{program}");
+    }
+    Ok(())
+}
+
+#[test]
+fn counts_the_firings_of_each_worker(rt: HostRuntime) -> Result<(), Fail> {
+    let (report, _) = report_of(
+        rt.alloc(),
+        "krun run d.k p",
+        TINY,
+        "plus(s(z()),z())",
+        Vec::new(rt.alloc()),
+    )?;
+    assert_eq!(rt; report.counts.as_slice(), [2_u64, 0, 0, 0, 0].as_slice());
+    assert_eq!(rt;
+        report.fired.as_slice().first().map(|entry| entry.site.rule),
+        Some(2)
+    );
+    assert_eq!(rt;
+        report.fired.as_slice().get(1).map(|entry| entry.site.rule),
+        Some(1)
+    );
+    assert!(rt; report.end.is_some());
+    Ok(())
+}
+
+#[test]
+fn refuses_other_words(rt: HostRuntime) -> Result<(), Fail> {
+    for line in [
+        "krun",
+        "krun run d.k",
+        "krun kast d.k p",
+        "krun run d.k p more",
+    ] {
+        let (report, sink) = report_of(rt.alloc(), line, TINY, "z()", Vec::new(rt.alloc()))?;
+        assert_eq!(rt; report.outcome, Outcome::Usage, "{line}");
+        assert_eq!(rt; report.status, 2, "{line}");
+        assert!(rt;
+            sink.bytes().starts_with(b"usage: krun MODE DEF [PGM]"),
+            "{line}"
+        );
+    }
+    Ok(())
+}
+
+#[test]
+fn faults_of_reading_write_nothing(rt: HostRuntime) -> Result<(), Fail> {
+    let faults = [
+        (1, Which::Definition),
+        (2, Which::Definition),
+        (3, Which::Program),
+        (4, Which::Program),
+    ];
+    for (call, which) in faults {
+        let failing = vec![in rt.alloc(); call]?;
+        let (report, sink) = report_of(rt.alloc(), "krun run d.k p", TINY, "z()", failing)?;
+        assert_eq!(rt; report.outcome, Outcome::ReadFault(which), "{call}");
+        assert_eq!(rt; report.status, 5, "{call}");
+        assert!(rt; sink.bytes().is_empty(), "{call}");
+    }
+    Ok(())
+}
+
+#[test]
+fn a_failed_write_keeps_the_outcome(rt: HostRuntime) -> Result<(), Fail> {
+    let mut shelf = MemShelf::new(files(rt.alloc(), TINY, "z()")?, Vec::new(rt.alloc()));
+    let mut sink = MemSink::new(rt.alloc(), 16, vec![in rt.alloc(); 2]?)?;
+    let words = words(rt.alloc(), "krun run d.k p")?;
+    let report = krun_alone(rt.alloc(), words.as_slice(), &mut shelf, &mut sink);
+    assert_eq!(rt; report.status, 6);
+    assert_eq!(rt; report.outcome, Outcome::Final);
+    assert_eq!(rt; sink.bytes(), b"Final 0\n<k> z() ".as_slice());
+    Ok(())
+}
+
+#[test]
+fn runs_over_a_shelf_and_a_sink_that_never_fail(rt: HostRuntime) -> Result<(), Fail> {
+    let mut shelf = SureShelf::new(files(rt.alloc(), TINY, "plus(s(z()),z())")?);
+    let mut sink = SureSink::new();
+    let words = words(rt.alloc(), "krun run d.k p")?;
+    let report = krun_alone(rt.alloc(), words.as_slice(), &mut shelf, &mut sink);
+    assert_eq!(rt; report.outcome, Outcome::Final);
+    assert_eq!(rt; report.fired.len(), 2);
+    Ok(())
+}

@@ -1,0 +1,216 @@
+ghost use Rattle.std.specs.Prelude.{◌≡◌, ◌≢◌, ◌≤◌, ◌⊎◌, ◌∷◌, [], List, ℕ, Some, None, map, string_bytes, length, IfSome, IfOk, IfErr};
+ghost use Rattle.small_form.specs.Small.{IsSmallText, language_of};
+ghost use Rattle.small_form.specs.Program.{IsTermText};
+ghost use Rattle.krun.specs.Outcome.{status_of, text_of, run_word};
+ghost use Rattle.krun.specs.Headline.{word_at, run_text as text_of_run, IsRun, Took};
+ghost use Rattle.live_config.specs.Firing.{Leads};
+ghost use Rattle.front_run.specs.Front.{one_cell};
+
+use crate::job::job_of;
+use crate::outcome::{Outcome, ReadRefusal, WRITE_FAULT, Which};
+use crate::report::Report;
+use crate::texts::run_text;
+use front_run::{Ending, Run, run_program};
+use k_edge::{Shelf, Sink};
+use k_terms::{Many, Memory, Numbers, Value};
+use live_config::{Fired, Live};
+use rule_terms::Defs;
+use small_form::{Small, language, read_definition, read_program};
+use std::alloc::Global;
+use whole_files::{Unread, read_file, write_all};
+
+/// The greatest length of a definition and of a program, in bytes.
+const FILE_LIMIT: usize = 4096;
+
+/// How many instances may fire.
+const BUDGET: u32 = 100_000;
+
+/// The number of workers where no word says another.
+const WORKERS: usize = 4;
+
+/// A run that ended, with its text.
+#[derive(Drop)]
+struct Ran {
+    outcome: Outcome,
+    fired: Many<Fired>,
+    counts: Numbers,
+    end: Live,
+    text: Vec<u8>,
+}
+
+/// The bytes of a file.
+fn file_bytes<H: Shelf>(
+    alloc: Global,
+    shelf: &mut H,
+    name: &str,
+    which: Which,
+) -> Result<Vec<u8>, Outcome>
+    ensures kept { (other : List ℕ) → H.told shelf.new other ≡ H.told shelf.old other }
+    ensures whole { IfSome (H.told shelf.old name.now) (λ file.
+        IfOk result (λ bytes. length bytes.items ≤ 4096 → bytes.items ≡ file)) }
+    ensures refused { IfErr result (λ refusal. run_word refusal ≡ None) }
+{
+    match read_file(alloc, shelf, name, FILE_LIMIT) {
+        Ok(bytes) => Ok(bytes),
+        Err(Unread::Fault) => Err(Outcome::ReadFault(which)),
+        Err(Unread::Memory) => Err(Outcome::Memory),
+    }
+}
+
+/// The definition that a file holds.
+fn definition_at<H: Shelf>(alloc: Global, shelf: &mut H, name: &str) -> Result<Small, Outcome>
+    ensures kept { (other : List ℕ) → H.told shelf.new other ≡ H.told shelf.old other }
+    ensures read { IfSome (H.told shelf.old name.now) (λ file. IfOk result (λ small. IsSmallText file small)) }
+    ensures refused { IfErr result (λ refusal. run_word refusal ≡ None) }
+{
+    let bytes = file_bytes(alloc, shelf, name, Which::Definition)?;
+    read_definition(alloc, bytes.as_slice())?.ok_or(Outcome::Unbuilt)
+}
+
+/// The value of the program that a file holds.
+fn program_at<H: Shelf>(
+    alloc: Global,
+    shelf: &mut H,
+    name: &str,
+    small: &Small,
+) -> Result<Value, Outcome>
+    ensures read { IfSome (H.told shelf.old name.now) (λ file.
+        IfOk result (λ value. IsTermText small.now.productions file value)) }
+    ensures refused { IfErr result (λ refusal. run_word refusal ≡ None) }
+{
+    let bytes = file_bytes(alloc, shelf, name, Which::Program)?;
+    let value = read_program(alloc, small.productions.as_slice(), bytes.as_slice())?;
+    value.ok_or(Outcome::Program(ReadRefusal::NoReading { at: 0 }))
+}
+
+/// The number of instances that each worker fired: the caller all, and the others none.
+fn counts_of(alloc: Global, fired: usize) -> Result<Numbers, Memory> {
+    let mut counts = Many::new(alloc);
+    counts.push(fired as u64)?;
+    for _ in 0..WORKERS {
+        counts.push(0)?;
+    }
+    Ok(counts)
+}
+
+/// The outcome of a run that ended like this, and its word.
+fn outcome_of(ending: Ending) -> (Outcome, &'static str)
+    ensures { run_word result.0 ≡ Some result.1.now }
+{
+    match ending {
+        Ending::Final => (Outcome::Final, "Final"),
+        Ending::Budget => (Outcome::Budget, "Budget"),
+    }
+}
+
+/// The run of a program, and its text.
+fn run_of(alloc: Global, defs: &Defs, program: Value) -> Result<Ran, Outcome>
+    ensures leads { IfOk result (λ ran. Leads defs.now (one_cell (program ∷ [])) ran.fired ran.end.now) }
+    ensures within { IfOk result (λ ran. length ran.fired ≤ 100000) }
+    ensures text { IfOk result (λ ran. IfSome (run_word ran.outcome) (λ word.
+        ran.text.items ≡ text_of_run word defs.now ran.fired ran.end.now)) }
+    ensures ended { IfOk result (λ ran. run_word ran.outcome ≢ None) }
+    ensures refused { IfErr result (λ refusal. run_word refusal ≡ None) }
+{
+    let run = run_program(alloc, defs, program, BUDGET)?;
+    let (outcome, word) = outcome_of(run.ending);
+    let text = run_text(alloc, word, defs, run.fired.len(), &run.plain)?;
+    let counts = counts_of(alloc, run.fired.len())?;
+    Ok(Ran {
+        outcome,
+        fired: run.fired,
+        counts,
+        end: run.end,
+        text,
+    })
+}
+
+/// The run that the words ask for.
+fn run_job<H: Shelf>(alloc: Global, shelf: &mut H, words: &[String]) -> Result<Ran, Outcome>
+    ensures run { IfOk result (λ ran. IfSome (run_word ran.outcome) (λ word.
+        IsRun (H.told shelf.old (word_at (map string_bytes words.now) 2)) (H.told shelf.old (word_at (map string_bytes words.now) 3))
+        word ran.fired (Some ran.end) ran.text.items)) }
+    ensures ended { IfOk result (λ ran. run_word ran.outcome ≢ None) }
+    ensures refused { IfErr result (λ refusal. run_word refusal ≡ None) }
+{
+    let Some(job) = job_of(words) else {
+        return Err(Outcome::Usage);
+    };
+    let small = definition_at(alloc, shelf, job.definition)?;
+    let program = program_at(alloc, shelf, job.program, &small)?;
+    let defs = language(alloc, small)?;
+    run_of(alloc, &defs, program)
+}
+
+/// Writes a text, and gives the exit status: that of the outcome, or the one of a failed write.
+fn status_after<O: Sink>(out: &mut O, text: &[u8], outcome: Outcome) -> u8
+    ensures status { (result ≡ 6) ⊎ (result ≡ status_of outcome) }
+    ensures took { result ≢ 6 → Took (O.taken out.old) (O.taken out.new) text.now }
+{
+    match write_all(out, text) {
+        Ok(()) => outcome.status(),
+        Err(_) => WRITE_FAULT,
+    }
+}
+
+/// The report of a run, whose text is written.
+fn report_run<O: Sink>(out: &mut O, ran: Ran) -> Report
+    ensures status { (result.status ≡ 6) ⊎ (result.status ≡ status_of result.outcome) }
+    ensures same { (result.outcome ≡ ran.outcome) × (result.fired ≡ ran.fired) × (result.end ≡ Some ran.end) }
+    ensures took { result.status ≢ 6 → Took (O.taken out.old) (O.taken out.new) ran.text.items }
+{
+    let Ran {
+        outcome,
+        fired,
+        counts,
+        end,
+        text,
+    } = ran;
+    Report {
+        status: status_after(out, text.as_slice(), outcome),
+        outcome,
+        fired,
+        counts,
+        end: Some(end),
+    }
+}
+
+/// The report of a refusal, whose line is written.
+fn report_refusal<O: Sink>(alloc: Global, out: &mut O, outcome: Outcome) -> Report
+    ensures status { (result.status ≡ 6) ⊎ (result.status ≡ status_of result.outcome) }
+    ensures same { result.outcome ≡ outcome }
+    ensures took { result.status ≢ 6 → Took (O.taken out.old) (O.taken out.new) (text_of outcome) }
+{
+    let status = status_after(out, outcome.line(), outcome);
+    Report {
+        status,
+        outcome,
+        fired: Many::new(alloc),
+        counts: Many::new(alloc),
+        end: None,
+    }
+}
+
+/// Reads a definition and a program, rewrites the program by the definition's rules, at most 100,000 times, and writes
+/// the outcome, the number of firings and the configuration reached, or the line of a refusal. Where a file can't be
+/// read or memory is wanting, it writes nothing. Where the text can't be written, the status is 6, and the outcome says
+/// what would have been written.
+pub fn krun_alone<H: Shelf, O: Sink>(
+    alloc: Global,
+    words: &[String],
+    shelf: &mut H,
+    out: &mut O,
+) -> Report
+    ensures run { IfSome (run_word result.outcome) (λ word. (text : List ℕ) ×
+        IsRun (H.told shelf.old (word_at (map string_bytes words.now) 2)) (H.told shelf.old (word_at (map string_bytes words.now) 3))
+        word result.fired result.end text ×
+        (result.status ≢ 6 → Took (O.taken out.old) (O.taken out.new) text)) }
+    ensures refusal { run_word result.outcome ≡ None → result.status ≢ 6 →
+        Took (O.taken out.old) (O.taken out.new) (text_of result.outcome) }
+    ensures status { (result.status ≡ 6) ⊎ (result.status ≡ status_of result.outcome) }
+{
+    match run_job(alloc, shelf, words) {
+        Ok(ran) => report_run(out, ran),
+        Err(outcome) => report_refusal(alloc, out, outcome),
+    }
+}
