@@ -1,8 +1,13 @@
-ghost use Rattle.std.specs.Prelude.{◌≡◌, ◌≢◌, ◌≤◌, ◌⊎◌, ◌∷◌, [], List, ℕ, Some, None, map, string_bytes, length, IfSome, IfOk, IfErr};
+ghost use Rattle.std.specs.Prelude.{◌≡◌, ◌≢◌, ◌↔◌, ◌≤◌, ◌⊎◌, ◌∷◌, [], List, ℕ, Some, None, map, string_bytes, length, IfSome, IfOk, IfErr};
 ghost use Rattle.small_form.specs.Small.{IsSmallText, language_of};
 ghost use Rattle.small_form.specs.Program.{IsTermText};
 ghost use Rattle.krun.specs.Outcome.{status_of, text_of, run_word};
 ghost use Rattle.krun.specs.Headline.{word_at, run_text as text_of_run, IsRun, Took};
+ghost use Rattle.krun.specs.Causes.{IsJob};
+ghost use Rattle.krun.specs.declared.outcome.Outcome.TheVariants.{Usage as WantOfWords, Memory as WantOfMemory, ReadFault as FaultOf, Budget as OfBudget};
+ghost use Rattle.krun.specs.declared.outcome.Which.TheVariants.{Definition as TheDefinition, Program as TheProgram};
+ghost use Rattle.k_edge.specs.Faults.{Rose};
+ghost use Rattle.whole_files.specs.Writing.{AppendsFront};
 ghost use Rattle.live_config.specs.Firing.{Leads};
 ghost use Rattle.front_run.specs.Front.{one_cell};
 
@@ -49,6 +54,11 @@ fn file_bytes<H: Shelf>(
     ensures whole { IfSome (H.told shelf.old name.now) (λ file.
         IfOk result (λ bytes. length bytes.items ≤ 4096 → bytes.items ≡ file)) }
     ensures refused { IfErr result (λ refusal. run_word refusal ≡ None) }
+    ensures words { IfErr result (λ refusal. refusal ≢ WantOfWords) }
+    ensures later { (other : List ℕ) → H.faults shelf.old other ≤ H.faults shelf.new other }
+    ensures only { IfErr result (λ refusal. (refusal ≡ WantOfMemory) ⊎ (refusal ≡ FaultOf which)) }
+    ensures fault { IfErr result (λ refusal. refusal ≡ FaultOf which →
+        Rose (H.faults shelf.old name.now) (H.faults shelf.new name.now)) }
 {
     match read_file(alloc, shelf, name, FILE_LIMIT) {
         Ok(bytes) => Ok(bytes),
@@ -62,6 +72,11 @@ fn definition_at<H: Shelf>(alloc: Global, shelf: &mut H, name: &str) -> Result<S
     ensures kept { (other : List ℕ) → H.told shelf.new other ≡ H.told shelf.old other }
     ensures read { IfSome (H.told shelf.old name.now) (λ file. IfOk result (λ small. IsSmallText file small)) }
     ensures refused { IfErr result (λ refusal. run_word refusal ≡ None) }
+    ensures words { IfErr result (λ refusal. refusal ≢ WantOfWords) }
+    ensures later { (other : List ℕ) → H.faults shelf.old other ≤ H.faults shelf.new other }
+    ensures only { IfErr result (λ refusal. refusal ≢ FaultOf TheProgram) }
+    ensures fault { IfErr result (λ refusal. refusal ≡ FaultOf TheDefinition →
+        Rose (H.faults shelf.old name.now) (H.faults shelf.new name.now)) }
 {
     let bytes = file_bytes(alloc, shelf, name, Which::Definition)?;
     read_definition(alloc, bytes.as_slice())?.ok_or(Outcome::Unbuilt)
@@ -77,6 +92,11 @@ fn program_at<H: Shelf>(
     ensures read { IfSome (H.told shelf.old name.now) (λ file.
         IfOk result (λ value. IsTermText small.now.productions file value)) }
     ensures refused { IfErr result (λ refusal. run_word refusal ≡ None) }
+    ensures words { IfErr result (λ refusal. refusal ≢ WantOfWords) }
+    ensures later { (other : List ℕ) → H.faults shelf.old other ≤ H.faults shelf.new other }
+    ensures only { IfErr result (λ refusal. refusal ≢ FaultOf TheDefinition) }
+    ensures fault { IfErr result (λ refusal. refusal ≡ FaultOf TheProgram →
+        Rose (H.faults shelf.old name.now) (H.faults shelf.new name.now)) }
 {
     let bytes = file_bytes(alloc, shelf, name, Which::Program)?;
     let value = read_program(alloc, small.productions.as_slice(), bytes.as_slice())?;
@@ -95,7 +115,8 @@ fn counts_of(alloc: Global, fired: usize) -> Result<Numbers, Memory> {
 
 /// The outcome of a run that ended like this, and its word.
 fn outcome_of(ending: Ending) -> (Outcome, &'static str)
-    ensures { run_word result.0 ≡ Some result.1.now }
+    ensures word { run_word result.0 ≡ Some result.1.now }
+    ensures budget { result.0 ≡ OfBudget → ending ≡ Ending.Budget }
 {
     match ending {
         Ending::Final => (Outcome::Final, "Final"),
@@ -111,6 +132,9 @@ fn run_of(alloc: Global, defs: &Defs, program: Value) -> Result<Ran, Outcome>
         ran.text.items ≡ text_of_run word defs.now ran.fired ran.end.now)) }
     ensures ended { IfOk result (λ ran. run_word ran.outcome ≢ None) }
     ensures refused { IfErr result (λ refusal. run_word refusal ≡ None) }
+    ensures words { IfErr result (λ refusal. refusal ≢ WantOfWords) }
+    ensures only { IfErr result (λ refusal. refusal ≡ WantOfMemory) }
+    ensures used_up { IfOk result (λ ran. ran.outcome ≡ OfBudget → length ran.fired ≡ 100000) }
 {
     let run = run_program(alloc, defs, program, BUDGET)?;
     let (outcome, word) = outcome_of(run.ending);
@@ -132,6 +156,13 @@ fn run_job<H: Shelf>(alloc: Global, shelf: &mut H, words: &[String]) -> Result<R
         word ran.fired (Some ran.end) ran.text.items)) }
     ensures ended { IfOk result (λ ran. run_word ran.outcome ≢ None) }
     ensures refused { IfErr result (λ refusal. run_word refusal ≡ None) }
+    ensures words { IfErr result (λ refusal. (refusal ≡ WantOfWords) ↔ (IsJob (map string_bytes words.now) → ⊥)) }
+    ensures job { IfOk result (λ _. IsJob (map string_bytes words.now)) }
+    ensures definition_fault { IfErr result (λ refusal. refusal ≡ FaultOf TheDefinition →
+        Rose (H.faults shelf.old (word_at (map string_bytes words.now) 2)) (H.faults shelf.new (word_at (map string_bytes words.now) 2))) }
+    ensures program_fault { IfErr result (λ refusal. refusal ≡ FaultOf TheProgram →
+        Rose (H.faults shelf.old (word_at (map string_bytes words.now) 3)) (H.faults shelf.new (word_at (map string_bytes words.now) 3))) }
+    ensures used_up { IfOk result (λ ran. ran.outcome ≡ OfBudget → length ran.fired ≡ 100000) }
 {
     let Some(job) = job_of(words) else {
         return Err(Outcome::Usage);
@@ -146,6 +177,8 @@ fn run_job<H: Shelf>(alloc: Global, shelf: &mut H, words: &[String]) -> Result<R
 fn status_after<O: Sink>(out: &mut O, text: &[u8], outcome: Outcome) -> u8
     ensures status { (result ≡ 6) ⊎ (result ≡ status_of outcome) }
     ensures took { result ≢ 6 → Took (O.taken out.old) (O.taken out.new) text.now }
+    ensures front { result ≡ 6 → AppendsFront (O.taken out.old) (O.taken out.new) text.now }
+    ensures fault { result ≡ 6 → Rose (O.faults out.old) (O.faults out.new) }
 {
     match write_all(out, text) {
         Ok(()) => outcome.status(),
@@ -158,6 +191,8 @@ fn report_run<O: Sink>(out: &mut O, ran: Ran) -> Report
     ensures status { (result.status ≡ 6) ⊎ (result.status ≡ status_of result.outcome) }
     ensures same { (result.outcome ≡ ran.outcome) × (result.fired ≡ ran.fired) × (result.end ≡ Some ran.end) }
     ensures took { result.status ≢ 6 → Took (O.taken out.old) (O.taken out.new) ran.text.items }
+    ensures front { result.status ≡ 6 → AppendsFront (O.taken out.old) (O.taken out.new) ran.text.items }
+    ensures fault { result.status ≡ 6 → Rose (O.faults out.old) (O.faults out.new) }
 {
     let Ran {
         outcome,
@@ -180,6 +215,8 @@ fn report_refusal<O: Sink>(alloc: Global, out: &mut O, outcome: Outcome) -> Repo
     ensures status { (result.status ≡ 6) ⊎ (result.status ≡ status_of result.outcome) }
     ensures same { result.outcome ≡ outcome }
     ensures took { result.status ≢ 6 → Took (O.taken out.old) (O.taken out.new) (text_of outcome) }
+    ensures front { result.status ≡ 6 → AppendsFront (O.taken out.old) (O.taken out.new) (text_of outcome) }
+    ensures fault { result.status ≡ 6 → Rose (O.faults out.old) (O.faults out.new) }
 {
     let status = status_after(out, outcome.line(), outcome);
     Report {
@@ -204,9 +241,19 @@ pub fn krun_alone<H: Shelf, O: Sink>(
     ensures run { IfSome (run_word result.outcome) (λ word. (text : List ℕ) ×
         IsRun (H.told shelf.old (word_at (map string_bytes words.now) 2)) (H.told shelf.old (word_at (map string_bytes words.now) 3))
         word result.fired result.end text ×
-        (result.status ≢ 6 → Took (O.taken out.old) (O.taken out.new) text)) }
+        (result.status ≢ 6 → Took (O.taken out.old) (O.taken out.new) text) ×
+        (result.status ≡ 6 → AppendsFront (O.taken out.old) (O.taken out.new) text)) }
     ensures refusal { run_word result.outcome ≡ None → result.status ≢ 6 →
         Took (O.taken out.old) (O.taken out.new) (text_of result.outcome) }
+    ensures refusal_front { run_word result.outcome ≡ None → result.status ≡ 6 →
+        AppendsFront (O.taken out.old) (O.taken out.new) (text_of result.outcome) }
+    ensures write_fault { result.status ≡ 6 → Rose (O.faults out.old) (O.faults out.new) }
+    ensures definition_fault { result.outcome ≡ FaultOf TheDefinition →
+        Rose (H.faults shelf.old (word_at (map string_bytes words.now) 2)) (H.faults shelf.new (word_at (map string_bytes words.now) 2)) }
+    ensures program_fault { result.outcome ≡ FaultOf TheProgram →
+        Rose (H.faults shelf.old (word_at (map string_bytes words.now) 3)) (H.faults shelf.new (word_at (map string_bytes words.now) 3)) }
+    ensures used_up { result.outcome ≡ OfBudget → length result.fired ≡ 100000 }
+    ensures usage { (result.outcome ≡ WantOfWords) ↔ (IsJob (map string_bytes words.now) → ⊥) }
     ensures status { (result.status ≡ 6) ⊎ (result.status ≡ status_of result.outcome) }
 {
     match run_job(alloc, shelf, words) {

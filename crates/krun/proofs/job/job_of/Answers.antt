@@ -1,0 +1,19 @@
+use Rattle.std.proofs.Common.{arith, ◌≡◌, map, string_bytes, unwrap_or, [], ◌∙◌, sym, ap, length}
+use Rattle.std.proofs.lemmas.Grind.{common_steps}
+use Rattle.std.proofs.lemmas.List.{length-map}
+use Rattle.std.proofs.lemmas.Option.{slice_get-map, slice_get_read}
+use Rattle.std.specs.Option.{option_map}
+use Rattle.std.specs.Cmp.Lexicographic.{same_text}
+use Rattle.krun.specs.Headline.{word_at}
+use Rattle.krun.proofs.job.job_of.Goals as goal
+
+pub returns-then-eq-clause-job : goal.returns-then-eq-clause-job
+returns-then-eq-clause-job c =
+    let words = c.args.words.now in
+    let four : length words ≡ 4 = grind (arith, common_steps) in
+    let is : word_at (map string_bytes words) 1 ≡ c.as_str.result.now =
+    ap (λ o. unwrap_or o []) (slice_get-map string_bytes words 1 ∙ ap (option_map string_bytes) (slice_get_read words 4 1 c.mode-item.result (sym four) (grind (arith, common_steps)) c.mode-item.is)) ∙ sym c.as_str.ensures.value in
+    record {
+      four = length-map words string_bytes ∙ four;
+      mode = is ∙ same_text _ _ c.if-eq.ensures;
+    }
