@@ -71,12 +71,9 @@ rewrites o r left right x y variables last bound first made others left_cell rig
       right = ap (λ b. content_of b s) right_is ∙ front_content bound right y made others right_at (same_rest ∙ count);
     }
 
--- the site of a rule at the front of the one cell, and its entry
+-- the site of a rule at the front of the one cell
 abbrev pub front_site : ℕ → Site
 front_site number = record { rule = number; cells = 1 ∷ []; keys = [] }
-
-abbrev pub front_entry : ℕ → Fired
-front_entry number = record { site = front_site number; births = []; by = 0 }
 
 abbrev side : List Pattern → Option ℕ → CellPat
 side parts rest = record { cell = 0; mark = 0; body = SeqBody parts rest }
