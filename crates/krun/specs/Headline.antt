@@ -19,6 +19,10 @@ use Rattle.krun.specs.Outcome.{line_end}
 abbrev pub budget : ℕ
 budget = 100000
 
+-- how many instances each worker fired, the caller first, where the caller alone fires and there are four workers
+abbrev pub caller_fired : ℕ → List ℕ
+caller_fired fired = fired ∷ 0 ∷ 0 ∷ 0 ∷ 0 ∷ []
+
 -- a word of the command line, as bytes
 abbrev pub word_at : List (List ℕ) → ℕ → List ℕ
 word_at words n = unwrap_or (slice_get words n) []

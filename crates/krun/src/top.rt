@@ -2,7 +2,7 @@ ghost use Rattle.std.specs.Prelude.{◌≡◌, ◌≢◌, ◌↔◌, ◌≤◌, 
 ghost use Rattle.small_form.specs.Small.{IsSmallText, language_of};
 ghost use Rattle.small_form.specs.Program.{IsTermText};
 ghost use Rattle.krun.specs.Outcome.{status_of, text_of, run_word};
-ghost use Rattle.krun.specs.Headline.{word_at, run_text as text_of_run, IsRun, Took};
+ghost use Rattle.krun.specs.Headline.{word_at, caller_fired, run_text as text_of_run, IsRun, Took};
 ghost use Rattle.krun.specs.Causes.{IsJob};
 ghost use Rattle.krun.specs.declared.outcome.Outcome.TheVariants.{Usage as WantOfWords, Memory as WantOfMemory, ReadFault as FaultOf, Budget as OfBudget};
 ghost use Rattle.krun.specs.declared.outcome.Which.TheVariants.{Definition as TheDefinition, Program as TheProgram};
@@ -15,7 +15,7 @@ use crate::job::job_of;
 use crate::outcome::{Outcome, ReadRefusal, WRITE_FAULT, Which};
 use crate::report::Report;
 use crate::texts::run_text;
-use front_run::{Ending, Run, run_program};
+use front_run::{Ending, run_program};
 use k_edge::{Shelf, Sink};
 use k_terms::{Many, Memory, Numbers, Value};
 use live_config::{Fired, Live};
@@ -104,13 +104,12 @@ fn program_at<H: Shelf>(
 }
 
 /// The number of instances that each worker fired: the caller all, and the others none.
-fn counts_of(alloc: Global, fired: usize) -> Result<Numbers, Memory> {
-    let mut counts = Many::new(alloc);
-    counts.push(fired as u64)?;
-    for _ in 0..WORKERS {
-        counts.push(0)?;
-    }
-    Ok(counts)
+fn counts_of(alloc: Global, fired: usize) -> Result<Numbers, Memory>
+    ensures { IfOk result (λ counts. counts ≡ caller_fired fired) }
+{
+    let mut counts = Vec::from_elem(alloc, 0, WORKERS + 1)?;
+    counts[0] = fired as u64;
+    Ok(Many::from_vec(counts))
 }
 
 /// The outcome of a run that ended like this, and its word.
@@ -135,6 +134,7 @@ fn run_of(alloc: Global, defs: &Defs, program: Value) -> Result<Ran, Outcome>
     ensures words { IfErr result (λ refusal. refusal ≢ WantOfWords) }
     ensures only { IfErr result (λ refusal. refusal ≡ WantOfMemory) }
     ensures used_up { IfOk result (λ ran. ran.outcome ≡ OfBudget → length ran.fired ≡ 100000) }
+    ensures counts { IfOk result (λ ran. ran.counts ≡ caller_fired (length ran.fired)) }
 {
     let run = run_program(alloc, defs, program, BUDGET)?;
     let (outcome, word) = outcome_of(run.ending);
@@ -163,6 +163,7 @@ fn run_job<H: Shelf>(alloc: Global, shelf: &mut H, words: &[String]) -> Result<R
     ensures program_fault { IfErr result (λ refusal. refusal ≡ FaultOf TheProgram →
         Rose (H.faults shelf.old (word_at (map string_bytes words.now) 3)) (H.faults shelf.new (word_at (map string_bytes words.now) 3))) }
     ensures used_up { IfOk result (λ ran. ran.outcome ≡ OfBudget → length ran.fired ≡ 100000) }
+    ensures counts { IfOk result (λ ran. ran.counts ≡ caller_fired (length ran.fired)) }
 {
     let Some(job) = job_of(words) else {
         return Err(Outcome::Usage);
@@ -190,6 +191,7 @@ fn status_after<O: Sink>(out: &mut O, text: &[u8], outcome: Outcome) -> u8
 fn report_run<O: Sink>(out: &mut O, ran: Ran) -> Report
     ensures status { (result.status ≡ 6) ⊎ (result.status ≡ status_of result.outcome) }
     ensures same { (result.outcome ≡ ran.outcome) × (result.fired ≡ ran.fired) × (result.end ≡ Some ran.end) }
+    ensures counts { result.counts ≡ ran.counts }
     ensures took { result.status ≢ 6 → Took (O.taken out.old) (O.taken out.new) ran.text.items }
     ensures front { result.status ≡ 6 → AppendsFront (O.taken out.old) (O.taken out.new) ran.text.items }
     ensures fault { result.status ≡ 6 → Rose (O.faults out.old) (O.faults out.new) }
@@ -214,6 +216,7 @@ fn report_run<O: Sink>(out: &mut O, ran: Ran) -> Report
 fn report_refusal<O: Sink>(alloc: Global, out: &mut O, outcome: Outcome) -> Report
     ensures status { (result.status ≡ 6) ⊎ (result.status ≡ status_of result.outcome) }
     ensures same { result.outcome ≡ outcome }
+    ensures empty { (result.fired ≡ []) × (result.counts ≡ []) × (result.end ≡ None) }
     ensures took { result.status ≢ 6 → Took (O.taken out.old) (O.taken out.new) (text_of outcome) }
     ensures front { result.status ≡ 6 → AppendsFront (O.taken out.old) (O.taken out.new) (text_of outcome) }
     ensures fault { result.status ≡ 6 → Rose (O.faults out.old) (O.faults out.new) }
@@ -253,6 +256,8 @@ pub fn krun_alone<H: Shelf, O: Sink>(
     ensures program_fault { result.outcome ≡ FaultOf TheProgram →
         Rose (H.faults shelf.old (word_at (map string_bytes words.now) 3)) (H.faults shelf.new (word_at (map string_bytes words.now) 3)) }
     ensures used_up { result.outcome ≡ OfBudget → length result.fired ≡ 100000 }
+    ensures counts { run_word result.outcome ≢ None → result.counts ≡ caller_fired (length result.fired) }
+    ensures empty { run_word result.outcome ≡ None → (result.fired ≡ []) × (result.counts ≡ []) × (result.end ≡ None) }
     ensures usage { (result.outcome ≡ WantOfWords) ↔ (IsJob (map string_bytes words.now) → ⊥) }
     ensures status { (result.status ≡ 6) ⊎ (result.status ≡ status_of result.outcome) }
 {
