@@ -24,7 +24,7 @@ use Rattle.rule_terms.specs.Rewriting.{Suits}
 use Rattle.live_config.specs.declared.site.Site.{Site}
 use Rattle.live_config.specs.declared.site.Fired.{Fired}
 use Rattle.live_config.specs.Configuration.{Configuration, way_up}
-use Rattle.live_config.specs.Spots.{spots_in}
+use Rattle.rule_terms.specs.Spots.{spots_in}
 use Rattle.live_config.specs.Firing.{Fires, Leads}
 use Rattle.front_run.specs.Bindings.{wholes, IsAt}
 use Rattle.front_run.specs.Front.{cell_of, one_cell, Rewrites}

@@ -16,9 +16,10 @@ use Rattle.k_terms.specs.Sorts.{SortOrder, Below, same, least_sort}
 use Rattle.rule_terms.specs.declared.defs.Kind.{Kind}
 use Rattle.rule_terms.specs.declared.defs.Kind.TheVariants.{Cells, Seq, Map, List as Listed, One}
 use Rattle.rule_terms.specs.Language.{Language}
+use Rattle.rule_terms.specs.Kinds.{IsOfKind}
 use Rattle.live_config.specs.declared.cell.Cell.{Cell}
 use Rattle.live_config.specs.Configuration.{Configuration, cell_at, kind_at, parent_number, root_of, level_limit}
-use Rattle.live_config.specs.Fits.{IsOfKind, IsLawful, Rooted, top, under, Fits}
+use Rattle.live_config.specs.Fits.{IsLawful, Rooted, top, under, Fits}
 
 -- ---- the test
 

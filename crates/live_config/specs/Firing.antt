@@ -14,9 +14,9 @@ use Rattle.rule_terms.specs.Rewriting.{Suits}
 use Rattle.live_config.specs.declared.cell.Cell.{Cell}
 use Rattle.live_config.specs.declared.site.Site.{Site}
 use Rattle.live_config.specs.declared.site.Fired.{Fired}
-use Rattle.live_config.specs.Numbers.{has_number, all_different}
+use Rattle.rule_terms.specs.Numbers.{has_number, all_different}
 use Rattle.live_config.specs.Configuration.{Configuration, cell_at, parent_number, below, tree, way_up, level_limit}
-use Rattle.live_config.specs.Spots.{Spot, spots, child_marks, has_mark, new_spots, number_of, key_patterns}
+use Rattle.rule_terms.specs.Spots.{Spot, spots, child_marks, has_mark, new_spots, number_of, key_patterns}
 
 -- the numbers of the cells with these marks
 abbrev pub numbers_of : List Spot → List ℕ → List ℕ → List ℕ

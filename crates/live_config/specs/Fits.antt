@@ -1,29 +1,13 @@
 -- What it means that a live configuration fits a definition.
 use Rattle.std.specs.Prelude.{◌≡◌, ℕ, Some, None, IsTrue, slice_get}
 use Rattle.std.specs.Option.{option_map}
-use Rattle.std.specs.List.{list_all}
 use Rattle.std.specs.Ordering.{nat_cmp}
 use Rattle.std.specs.FinMap.{is_sorted}
-use Rattle.k_terms.specs.declared.value.Value.{Map as Mapping}
-use Rattle.k_terms.specs.declared.value.Content.{Content}
-use Rattle.k_terms.specs.declared.value.Content.TheVariants.{Cells as NoContent, Seq as SeqContent, Map as MapContent, List as ListContent, One as OneContent}
-use Rattle.k_terms.specs.Value.{is_well_formed}
-use Rattle.k_terms.specs.Sorts.{SortOrder, Below, least_sort}
 use Rattle.rule_terms.specs.declared.defs.CellShape.{CellShape}
-use Rattle.rule_terms.specs.declared.defs.Kind.{Kind}
-use Rattle.rule_terms.specs.declared.defs.Kind.TheVariants.{Cells, Seq, Map, List as Listed, One}
 use Rattle.rule_terms.specs.Language.{Language}
+use Rattle.rule_terms.specs.Kinds.{IsOfKind}
 use Rattle.live_config.specs.declared.cell.Cell.{Cell}
 use Rattle.live_config.specs.Configuration.{Configuration, cell_at, kind_at, parent_number}
-
--- A content is of a kind. The keys of each map in it rise, and a single value is of the cell's sort.
-abbrev pub IsOfKind : SortOrder → Kind → Content → Type 0
-IsOfKind o Cells NoContent = Unit {0}
-IsOfKind o Seq (SeqContent values) = IsTrue (list_all is_well_formed values)
-IsOfKind o Map (MapContent entries) = IsTrue (is_well_formed (Mapping entries))
-IsOfKind o Listed (ListContent values) = IsTrue (list_all is_well_formed values)
-IsOfKind o (One sort) (OneContent v) = IsTrue (is_well_formed v) × Below o (least_sort o v) sort
-IsOfKind o _ _ = ⊥
 
 -- a cell is declared, lies in a cell of its declared parent, or has none where that has none, and has a content of its kind
 pub record IsLawful (d : Language) (c : Configuration) (cell : Cell) : Type 0 where

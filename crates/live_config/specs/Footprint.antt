@@ -1,5 +1,5 @@
 -- What a firing reads and what it rewrites.
-use Rattle.std.specs.Prelude.{◌≡◌, ℕ, Bool, true, false, not, ◌==◌, ◌&&◌, ◌||◌, List, [], ◌∷◌, ◌++◌, Option, Some, None, map, filter, reverse, cond, unwrap_or, is_some}
+use Rattle.std.specs.Prelude.{◌≡◌, ℕ, Bool, true, not, ◌==◌, ◌&&◌, ◌||◌, List, [], ◌∷◌, ◌++◌, Option, Some, None, map, filter, reverse, cond, unwrap_or, is_some}
 use Rattle.std.specs.Option.{option_and_then}
 use Rattle.std.specs.List.{list_any}
 use Rattle.std.specs.Ordering.{is_eq}
@@ -10,16 +10,16 @@ use Rattle.rule_terms.specs.declared.pattern.Body.{Body, Cells', Seq, Map, List 
 use Rattle.rule_terms.specs.declared.rule.Rule.{Rule}
 use Rattle.rule_terms.specs.Substitution.{Subst}
 use Rattle.rule_terms.specs.Eval.{eval}
-use Rattle.rule_terms.specs.Patterns.{same_rest, same_body, same_entry, is_rest, cond_mentions, body_rest, parts_mention}
+use Rattle.rule_terms.specs.Patterns.{same_rest, same_body, same_entry}
 use Rattle.rule_terms.specs.Language.{Language}
 use Rattle.live_config.specs.declared.site.Site.{Site}
 use Rattle.live_config.specs.declared.place.End.{End}
 use Rattle.live_config.specs.declared.place.End.TheVariants.{Whole, Key, Here, Number}
 use Rattle.live_config.specs.declared.place.Place.{Place}
 use Rattle.live_config.specs.declared.place.Marks.{Marks}
-use Rattle.live_config.specs.Numbers.{has_number}
+use Rattle.rule_terms.specs.Numbers.{has_number}
 use Rattle.live_config.specs.Configuration.{Configuration, way_up, level_limit}
-use Rattle.live_config.specs.Spots.{Spot, spots, has_mark, new_spots}
+use Rattle.rule_terms.specs.Spots.{Spot, spots, has_mark, new_spots, rest_elsewhere}
 use Rattle.live_config.specs.Firing.{Fires, right_number}
 
 -- the path of a cell: the numbers from the root to it
@@ -44,16 +44,6 @@ together a b = record { reads = a.reads ++ b.reads; writes = a.writes ++ b.write
 abbrev pub all_together : List Marks → Marks
 all_together [] = no_marks
 all_together (m ∷ ms) = together m (all_together ms)
-
--- the rest of a cell occurs elsewhere in the rule: in a cell of another mark, in a condition, or beside the rest in the cell itself
-abbrev pub occurs_elsewhere : Rule → ℕ → ℕ → Bool
-occurs_elsewhere r mark x =
-    list_any (λ (p : Spot). parts_mention x p.body || (not (p.mark == mark) && is_rest x (body_rest p.body))) (spots r.left ++ spots r.right)
-    || list_any (cond_mentions x) r.when
-
-abbrev pub rest_elsewhere : Rule → ℕ → Option ℕ → Bool
-rest_elsewhere r mark None = false
-rest_elsewhere r mark (Some x) = occurs_elsewhere r mark x
 
 -- a sequence or a list that is a rest alone
 abbrev pub lone_rest : Body → Option ℕ

@@ -1,10 +1,11 @@
-pub mod Numbers
 pub mod Configuration
 pub mod Fits
-pub mod Spots
 pub mod Firing
 pub mod Sites
 pub mod Places
 pub mod Footprint
 pub mod Open
 pub mod Live
+pub mod Runs
+pub mod Laws
+pub mod Steps

@@ -4,6 +4,7 @@
 
 mod cell;
 mod conflicts;
+pub mod laws;
 mod live;
 mod place;
 mod site;

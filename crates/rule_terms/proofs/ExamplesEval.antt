@@ -92,13 +92,13 @@ no_entries met = let e : Some false ≡ Some true = ap (option_and_then as_truth
 -- ---- heating and cooling of the right side of an assignment
 -- Sorts: 10 arithmetic expressions, with Int and Id below them, and 11 statements; Int is below KResult.
 -- Productions: 1 the sum, 2 the assignment.
-abbrev imp_sorts : SortOrder
+abbrev pub imp_sorts : SortOrder
 imp_sorts = record { steps = (3, 10) ∷ (6, 10) ∷ (3, 2) ∷ []; productions = 10 ∷ 11 ∷ [] }
 
 abbrev side : List Pattern → CellPat
 side parts = record { cell = 0; mark = 0; body = Cells (record { cell = 1; mark = 1; body = SeqBody parts (Some 2) } ∷ []) (Some 3) }
 
-abbrev heat : Rule
+abbrev pub heat : Rule
 heat = record {
   origin = Heat 2 2;
   vars = 6 ∷ 10 ∷ 0 ∷ 9 ∷ [];
@@ -107,7 +107,7 @@ heat = record {
   when = NotSort 1 2 ∷ [];
 }
 
-abbrev cool : Rule
+abbrev pub cool : Rule
 cool = record {
   origin = Cool 2 2;
   vars = 6 ∷ 10 ∷ 0 ∷ 9 ∷ [];

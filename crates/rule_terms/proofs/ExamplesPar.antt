@@ -22,7 +22,7 @@ abbrev pub sorts : SortOrder
 sorts = record { steps = []; productions = 10 ∷ 10 ∷ 10 ∷ 10 ∷ 10 ∷ 10 ∷ 10 ∷ 10 ∷ 11 ∷ [] }
 
 -- declared cells: 0 T, 1 threads, 2 thread, 3 k, 4 env, 5 mem
-abbrev shape : List ℕ → Option ℕ → Bool → Kind → CellShape
+abbrev pub shape : List ℕ → Option ℕ → Bool → Kind → CellShape
 shape name parent many kind = record { name = name; parent = parent; many = many; kind = kind }
 
 abbrev pub shapes : List CellShape
@@ -35,18 +35,18 @@ shapes =
     ∷ shape (codes "mem") (Some 0) false MapKind
     ∷ []
 
-abbrev leaf : ℕ → ℕ → Body → CellPat
+abbrev pub leaf : ℕ → ℕ → Body → CellPat
 leaf cell mark body = record { cell = cell; mark = mark; body = body }
 
-abbrev inner : ℕ → ℕ → List CellPat → Option ℕ → CellPat
+abbrev pub inner : ℕ → ℕ → List CellPat → Option ℕ → CellPat
 inner cell mark children rest = record { cell = cell; mark = mark; body = Cells children rest }
 
 -- the cells around threads, which have the marks 0 and 1
-abbrev around : List CellPat → Option ℕ → List CellPat → ℕ → CellPat
+abbrev pub around : List CellPat → Option ℕ → List CellPat → ℕ → CellPat
 around threads rest others whole = inner 0 0 (inner 1 1 threads rest ∷ others) (Some whole)
 
 -- one thread with its sequence, and the memory
-abbrev with_memory : Body → Body → ℕ → ℕ → ℕ → CellPat
+abbrev pub with_memory : Body → Body → ℕ → ℕ → ℕ → CellPat
 with_memory sequence memory a b c = around (inner 2 2 (leaf 3 3 sequence ∷ []) (Some a) ∷ []) (Some b) (leaf 5 4 memory ∷ []) c
 
 -- rule C:Cmd ; Cs:Cmds => C ~> Cs

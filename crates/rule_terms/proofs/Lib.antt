@@ -1,6 +1,19 @@
 mod Examples
-mod ExamplesEval
+pub mod ExamplesEval
 pub mod Alike
 pub mod NotBelow
 pub mod ExamplesPar
 pub mod ExamplesSteps
+pub mod Defined
+pub mod Table
+pub mod EvalSorts
+pub mod Layers
+pub mod Formed
+pub mod Contents
+pub mod RightKinds
+pub mod Parted
+pub mod PatternParts
+pub mod BoundFormed
+pub mod Known
+pub mod Sounding
+pub mod ExamplesSound

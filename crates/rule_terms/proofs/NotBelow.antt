@@ -1,12 +1,10 @@
 -- When a sort isn't below another: a set of sorts that each step up stays within has the first, and not the second.
-use Rattle.std.proofs.Common.{◌≡◌, ℕ, Bool, true, false, not, ◌||◌, ◌&&◌, List, refl}
-use Rattle.std.specs.Prelude.{Contains}
+use Rattle.std.proofs.Common.{◌≡◌, ℕ, Bool, true, false, not, ◌||◌, ◌&&◌}
 use Rattle.std.specs.List.{list_all}
-use Rattle.std.proofs.lemmas.List.Sums.{AllPass-from_list_all}
-use Rattle.std.proofs.lemmas.List.Elements.{All-contains}
 use Rattle.k_terms.specs.Sorts.{SortOrder, Below, same, subsort, produced, built_in, item, through, item_sorts, sort_kitem, sort_k}
+use Rattle.rule_terms.proofs.Defined.{both, passes}
 
-abbrev leads : Bool → Bool → Bool
+abbrev pub leads : Bool → Bool → Bool
 leads a b = not a || b
 
 -- each step up from a sort of the set comes to one of the set
@@ -17,16 +15,9 @@ is_closed o set =
     && list_all (λ sort. leads (set sort) (set sort_kitem)) item_sorts
     && leads (set sort_kitem) (set sort_k)
 
-passes : {X : Type 0} (p : X → Bool) (xs : List X) (x : X) → list_all p xs ≡ true → Contains xs x → p x ≡ true
-passes p xs x e has = All-contains (λ y. p y ≡ true) xs x (AllPass-from_list_all p xs e) has
-
-led : (a b : Bool) → leads a b ≡ true → a ≡ true → b ≡ true
+pub led : (a b : Bool) → leads a b ≡ true → a ≡ true → b ≡ true
 led true b e h = e
 led false b e h = cc
-
-both : (a b : Bool) → (a && b) ≡ true → (a ≡ true) × (b ≡ true)
-both true b e = (refl, e)
-both false b e = cc
 
 module _ (o : SortOrder) (within : ℕ → Bool) (e : is_closed o within ≡ true) where
   first_three : ((list_all (λ step. leads (within step.0) (within step.1)) o.steps && list_all (λ sort. leads (within sort) (within sort_kitem)) o.productions) && list_all (λ sort. leads (within sort) (within sort_kitem)) item_sorts) ≡ true

@@ -6,3 +6,8 @@ pub mod Language
 pub mod Rewriting
 pub mod Patterns
 pub mod Open
+pub mod Numbers
+pub mod Spots
+pub mod Sound
+pub mod Kinds
+pub mod Laws

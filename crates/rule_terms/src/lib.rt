@@ -2,6 +2,7 @@
 #![tactic(auto)]
 
 mod defs;
+pub mod laws;
 mod pattern;
 mod plain;
 mod rule;

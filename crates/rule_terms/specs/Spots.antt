@@ -1,10 +1,11 @@
 -- The cells of a rule's side as a flat list, in pre-order.
-use Rattle.std.specs.Prelude.{ℕ, Bool, ◌==◌, not, List, [], ◌∷◌, ◌++◌, Option, Some, None, map, filter, cond}
+use Rattle.std.specs.Prelude.{ℕ, Bool, false, ◌==◌, ◌&&◌, ◌||◌, not, List, [], ◌∷◌, ◌++◌, Option, Some, None, map, filter, cond}
 use Rattle.std.specs.List.{list_any, flat_map}
 use Rattle.rule_terms.specs.declared.pattern.Pattern.{Pattern}
 use Rattle.rule_terms.specs.declared.pattern.Body.{Body, Cells', Map, Row_of-CellPat, end_of-CellPat, more_of-CellPat}
 use Rattle.rule_terms.specs.declared.pattern.CellPat.{CellPat}
 use Rattle.rule_terms.specs.declared.rule.Rule.{Rule}
+use Rattle.rule_terms.specs.Patterns.{is_rest, cond_mentions, body_rest, parts_mention}
 
 -- a cell of a side: its declared cell, its mark, the mark of the cell around it, and its body
 pub record Spot : Type 0 where
@@ -55,3 +56,13 @@ keys_in _ = []
 
 abbrev pub key_patterns : List Spot → List Pattern
 key_patterns ps = flat_map (λ (p : Spot). keys_in p.body) ps
+
+-- the rest of a cell occurs elsewhere in the rule: in a cell of another mark, in a condition, or beside the rest in the cell itself
+abbrev pub occurs_elsewhere : Rule → ℕ → ℕ → Bool
+occurs_elsewhere r mark x =
+    list_any (λ (p : Spot). parts_mention x p.body || (not (p.mark == mark) && is_rest x (body_rest p.body))) (spots r.left ++ spots r.right)
+    || list_any (cond_mentions x) r.when
+
+abbrev pub rest_elsewhere : Rule → ℕ → Option ℕ → Bool
+rest_elsewhere r mark None = false
+rest_elsewhere r mark (Some x) = occurs_elsewhere r mark x
