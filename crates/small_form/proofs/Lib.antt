@@ -1,4 +1,12 @@
 mod ReadsLemmas
+mod Unique
+mod Exact
+mod Nodes
+mod Grounds
+mod Left
+mod Rules
+pub mod Parts
 mod Terms
 mod Assembled
 mod Values
+pub mod SmallIsSound

@@ -119,7 +119,7 @@ pub variables_of-Node : (p : ℕ) (ps : List Pattern) → variables_of (Node p p
 unfolding variables_of
 variables_of-Node p ps = row_variables_is (hidden-the_row-Pattern-0 ps) ∙ ap (flat_map variables_of) (items_hidden-the_row-Pattern-0 ps)
 
-node_shown : (p : ℕ) (s : (the_former this).Shape) (r : Row_of-Pattern (arity (the_former this) s)) → Node p (shown-the_row-Pattern-0 s r) ≡ Node' p s r
+pub node_shown : (p : ℕ) (s : (the_former this).Shape) (r : Row_of-Pattern (arity (the_former this) s)) → Node p (shown-the_row-Pattern-0 s r) ≡ Node' p s r
 unfolding out-Pattern roll-Pattern out roll
 node_shown p s r = roll-out-Pattern (Node' p s r)
 

@@ -30,6 +30,11 @@ begins_in_word text = option_map_or continues_word (slice_get text 0) false
 abbrev pub ends_in_word : List ℕ → Bool
 ends_in_word text = option_map_or continues_word (slice_get text (length text - 1)) false
 
+-- a piece that has a first byte, which is no blank
+abbrev pub is_solid : List ℕ → Bool
+is_solid [] = false
+is_solid (b ∷ bs) = not (is_blank b)
+
 -- a piece ends where it does: what follows doesn't go on with its word
 abbrev pub is_apart : List ℕ → List ℕ → Bool
 is_apart piece rest = not (ends_in_word piece && begins_in_word rest)

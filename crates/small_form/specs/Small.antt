@@ -1,6 +1,6 @@
 -- The small form: how a definition of it is written, and the language that it defines.
-use Rattle.std.specs.Prelude.{◌≡◌, ℕ, suc, zero, Bool, true, false, ◌&&◌, ◌==◌, not, nat_lt, List, [], ◌∷◌, ◌++◌, Option, Some, None, IsTrue, map, length, codes, replicate, slice_get, unwrap_or, nat_eq, ◌<◌, ◌≤◌}
-use Rattle.std.specs.Option.{option_map}
+use Rattle.std.specs.Prelude.{◌≡◌, ℕ, suc, zero, Bool, true, false, ◌&&◌, ◌||◌, ◌==◌, not, nat_lt, List, [], ◌∷◌, ◌++◌, Option, Some, None, IsTrue, map, length, codes, replicate, slice_get, unwrap_or, nat_eq, ◌<◌, ◌≤◌, ◌^◌}
+use Rattle.std.specs.Option.{option_map, option_to_list}
 use Rattle.std.specs.List.{list_all, list_any, AllByRecursion}
 use Rattle.std.specs.Cmp.Lexicographic.{pointwise}
 use Rattle.k_terms.specs.Sorts.{sort_k}
@@ -15,7 +15,7 @@ use Rattle.rule_terms.specs.Language.{Language}
 use Rattle.small_form.specs.declared.small.Production.{Production}
 use Rattle.small_form.specs.declared.small.SmallRule.{SmallRule}
 use Rattle.small_form.specs.declared.small.Small.{Small}
-use Rattle.small_form.specs.Pieces.{is_word, is_capital, is_small, Spells}
+use Rattle.small_form.specs.Pieces.{is_word, is_capital, is_small, Reads, Spells}
 
 -- ---- how it is written
 
@@ -184,6 +184,51 @@ pub record IsSmallText (text : List ℕ) (d : Small) : Type 0 where
   pub short : length text ≤ definition_limit
   pub small : IsSmall d
   pub spelled : Spells (pieces_of d) text
+
+-- ---- what a text leaves open
+
+-- a rule but for the byte where it stands
+abbrev pub unplaced_rule : SmallRule → SmallRule
+unplaced_rule r = record { at = 0; names = r.names; left = r.left; right = r.right }
+
+-- a definition but for the bytes where its rules stand
+abbrev pub unplaced : Small → Small
+unplaced d = record { name = d.name; sort = d.sort; productions = d.productions; rules = map unplaced_rule d.rules }
+
+-- ---- what can be read in one way only
+
+-- where two of these texts are read at one place, they are one
+abbrev pub AreToldApart : List (List ℕ) → Type 0
+AreToldApart texts =
+    (i j : ℕ) (text a b : List ℕ) → i < length texts → j < length texts → Reads (at_number texts i ∷ []) text a → Reads (at_number texts j ∷ []) text b → i ≡ j
+
+-- variables as they are written: each begins with a capital
+pub record AreVariables (variables : List (List ℕ)) : Type 0 where
+  pub capitals : IsTrue (list_all (begins_by is_capital) variables)
+  pub apart : AreToldApart variables
+  pub few : length variables ≤ 2 ^ 32
+
+-- labels that are labels and differ
+pub record HaveLabels (productions : List Production) : Type 0 where
+  pub labels : IsTrue (list_all is_label (labels_of productions))
+  pub different : IsTrue (are_different (labels_of productions))
+  pub few : length productions < 2 ^ 32
+
+-- a piece of a left side: a variable with its sort, which has a name, or a label, a parenthesis or a comma, which has none
+abbrev pub IsLeftPiece : List ℕ → List ℕ → Option (List ℕ) → Type 0
+IsLeftPiece sort piece (Some name) = IsTrue (is_variable name) × (piece ≡ typed sort name)
+IsLeftPiece sort piece None = IsTrue (is_label piece || is_among (codes "(" ∷ codes "," ∷ codes ")" ∷ []) piece)
+
+-- the names of the variables among the pieces of a left side, in the order in which they stand
+abbrev pub HasNames : List ℕ → List (List ℕ) → List (List ℕ) → Type 0
+HasNames sort [] names = names ≡ []
+HasNames sort (piece ∷ pieces) names =
+    (name : Option (List ℕ)) × (more : List (List ℕ)) × IsLeftPiece sort piece name × (names ≡ option_to_list name ++ more) × HasNames sort pieces more
+
+-- the comma before an argument, unless it is the first
+abbrev pub comma_before : ℕ → List (List ℕ)
+comma_before zero = []
+comma_before (suc place) = codes "," ∷ []
 
 -- ---- the language that it defines
 

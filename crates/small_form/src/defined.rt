@@ -1,7 +1,8 @@
 ghost use Rattle.std.specs.Prelude.{◌≡◌, ◌+◌, ◌∷◌, [], ◌++◌, length, map, replicate, IfOk};
 ghost use Rattle.std.specs.Arc.{arc_value};
-ghost use Rattle.small_form.specs.Small.{language_of, rule_of, labels_of, front, first_sort, cell_k};
+ghost use Rattle.small_form.specs.Small.{IsSmall, language_of, rule_of, labels_of, front, first_sort, cell_k};
 ghost use Rattle.k_terms.specs.Sorts.{sort_k};
+ghost use Rattle.rule_terms.specs.Sound.{IsSound};
 
 use crate::small::{Production, Small, SmallRule};
 use k_terms::{Many, Memory, Sorts, Text, sort};
@@ -94,6 +95,7 @@ fn cells(alloc: Global) -> Result<Many<CellShape>, Memory>
 /// The language that a definition of the small form defines.
 pub fn language(alloc: Global, definition: Small) -> Result<Defs, Memory>
     ensures ok { IfOk result (λ defs. defs ≡ language_of definition) }
+    ensures sound { IsSmall definition → IfOk result (λ defs. IsSound defs) }
 {
     let Small {
         name: _,

@@ -1,8 +1,12 @@
-ghost use Rattle.std.specs.Prelude.{◌≡◌, ℕ, ◌+◌, ◌<◌, ◌≤◌, List, [], ◌∷◌, ◌++◌, length, map, codes, IsTrue, IfSome, OnSome, IfOk, replicate};
+ghost use Rattle.std.specs.Prelude.{◌≡◌, ℕ, ◌+◌, ◌<◌, ◌≤◌, List, [], ◌∷◌, ◌++◌, length, map, codes, IsTrue, IfSome, OnSome, IfOk, replicate, ◌^◌, Some, IsSomeAnd};
+ghost use Rattle.std.specs.Option.{option_map};
+ghost use Rattle.small_form.specs.declared.small.Small.{Small as Definition};
+ghost use Rattle.small_form.specs.declared.small.Production.{Production as Prod};
+ghost use Rattle.small_form.specs.declared.small.SmallRule.{SmallRule as Rule};
 ghost use Rattle.std.specs.Bool.{OnTrue};
 ghost use Rattle.std.specs.List.{list_all, AllByRecursion};
-ghost use Rattle.small_form.specs.Pieces.{is_word, Reads};
-ghost use Rattle.small_form.specs.Small.{is_label as label, is_sort as sort_name, separated, are_different as different, labels_of, production_pieces, configuration_pieces, rules_pieces, head_pieces, IsSmallRule, IsSmallText};
+ghost use Rattle.small_form.specs.Pieces.{is_word, is_solid, Reads};
+ghost use Rattle.small_form.specs.Small.{is_label as label, is_sort as sort_name, separated, are_different as different, labels_of, production_pieces, configuration_pieces, rules_pieces, head_pieces, comma_before, unplaced, unplaced_rule, HaveLabels, IsSmallRule, IsSmallText};
 
 use crate::names::{are_different, is_label, is_sort};
 use crate::reader::Reader;
@@ -25,11 +29,17 @@ fn read_next_sort(sort: &[u8], place: usize, reader: &mut Reader) -> bool
     ensures first { OnTrue result (place ≡ 0 → Reads (sort.now ∷ []) reader.old reader.new) }
     ensures later { OnTrue result (0 < place → Reads (codes "," ∷ sort.now ∷ []) reader.old reader.new) }
     ensures shorter { length reader.new ≤ length reader.old }
+    ensures sort_shorter { OnTrue result (length sort.now + length reader.new ≤ length reader.old) }
+    ensures exact { (pieces : List (List ℕ)) (rest : List ℕ) → IsTrue (is_solid sort.now)
+        → Reads (comma_before place ++ sort.now ∷ pieces) reader.old rest → IsTrue result × Reads pieces reader.new rest }
 {
     if place == 0 {
         return reader.eat(sort);
     }
-    reader.eat(b",") && reader.eat(sort)
+    if !reader.eat(b",") {
+        return false;
+    }
+    reader.eat(sort)
 }
 
 /// Reads the sorts of a production's arguments and the closing parenthesis, and gives their number.
@@ -37,6 +47,9 @@ fn read_sorts(sort: &[u8], reader: &mut Reader) -> Option<usize>
     ensures read { IfSome result (λ count.
         Reads (separated (codes ",") (replicate count (sort.now ∷ [])) ++ codes ")" ∷ []) reader.old reader.new) }
     ensures shorter { length reader.new ≤ length reader.old }
+    ensures exact { (count : ℕ) (pieces : List (List ℕ)) (rest : List ℕ) → IsTrue (sort_name sort.now) → length reader.old ≤ 2 ^ 32
+        → Reads (separated (codes ",") (replicate count (sort.now ∷ [])) ++ codes ")" ∷ pieces) reader.old rest
+        → (result ≡ Some count) × Reads pieces reader.new rest }
 {
     for count in 0..usize::MAX {
         if reader.eat(b")") {
@@ -58,11 +71,17 @@ fn read_production(
     ensures read { IfOk result (λ found. IfSome found (λ production.
         Reads (production_pieces sort.now production) reader.old reader.new)) }
     ensures shorter { length reader.new ≤ length reader.old }
+    ensures exact { (p : Prod) (pieces : List (List ℕ)) (rest : List ℕ) → IsTrue (sort_name sort.now) → length reader.old ≤ 2 ^ 32
+        → IsTrue (label p.label) → Reads (production_pieces sort.now p ++ pieces) reader.old rest
+        → IfOk result (λ found. (found ≡ Some p) × Reads pieces reader.new rest) }
 {
     let Some(label) = reader.word() else {
         return Ok(None);
     };
-    if !is_label(label) || !reader.eat(b"(") {
+    if !is_label(label) {
+        return Ok(None);
+    }
+    if !reader.eat(b"(") {
         return Ok(None);
     }
     let Some(arity) = read_sorts(sort, reader) else {
@@ -83,13 +102,17 @@ fn read_productions(
     ensures read { IfOk result (λ found. IfSome found (λ ps.
         Reads (separated (codes "|") (map (production_pieces sort.now) ps.items)) reader.old reader.new)) }
     ensures shorter { length reader.new ≤ length reader.old }
+    ensures exact { (ps : List Prod) (pieces : List (List ℕ)) (rest : List ℕ) → IsTrue (sort_name sort.now) → length reader.old ≤ 2 ^ 32
+        → 0 < length ps → IsTrue (list_all label (labels_of ps))
+        → Reads (separated (codes "|") (map (production_pieces sort.now) ps) ++ codes "configuration" ∷ pieces) reader.old rest
+        → IfOk result (λ found. IsSomeAnd found (λ read. read.items ≡ ps) × Reads (codes "configuration" ∷ pieces) reader.new rest) }
 {
     let mut productions = Vec::new(alloc);
     let Some(first) = read_production(alloc, sort, reader)? else {
         return Ok(None);
     };
     productions.push(first)?;
-    for _ in 0..usize::MAX {
+    loop {
         if !reader.eat(b"|") {
             return Ok(Some(productions));
         }
@@ -98,7 +121,22 @@ fn read_productions(
             None => return Ok(None),
         }
     }
-    Ok(None)
+}
+
+/// Reads the mark before the productions.
+fn read_becomes(reader: &mut Reader) -> bool
+    ensures read { OnTrue result (Reads (codes ":" ∷ codes ":" ∷ codes "=" ∷ []) reader.old reader.new) }
+    ensures shorter { length reader.new ≤ length reader.old }
+    ensures exact { (pieces : List (List ℕ)) (rest : List ℕ) → Reads (codes ":" ∷ codes ":" ∷ codes "=" ∷ pieces) reader.old rest
+        → IsTrue result × Reads pieces reader.new rest }
+{
+    if !reader.eat(b":") {
+        return false;
+    }
+    if !reader.eat(b":") {
+        return false;
+    }
+    reader.eat(b"=")
 }
 
 /// Reads the module's head, up to the mark before the productions: its name and the sort.
@@ -106,6 +144,10 @@ fn read_head<'a>(reader: &mut Reader<'a>) -> Option<(&'a [u8], &'a [u8])>
     ensures name { IfSome result (λ head. IsTrue (is_word head.0.now)) }
     ensures sort { IfSome result (λ head. IsTrue (sort_name head.1.now)) }
     ensures read { IfSome result (λ head. Reads (head_pieces head.0.now head.1.now) reader.old reader.new) }
+    ensures shorter { length reader.new ≤ length reader.old }
+    ensures exact { (name sort : List ℕ) (pieces : List (List ℕ)) (rest : List ℕ) → IsTrue (is_word name) → IsTrue (sort_name sort)
+        → Reads (head_pieces name sort ++ pieces) reader.old rest
+        → IsSomeAnd result (λ head. (head.0.now ≡ name) × (head.1.now ≡ sort)) × Reads pieces reader.new rest }
 {
     if !reader.eat(b"module") {
         return None;
@@ -115,7 +157,10 @@ fn read_head<'a>(reader: &mut Reader<'a>) -> Option<(&'a [u8], &'a [u8])>
         return None;
     }
     let sort = reader.word()?;
-    if !is_sort(sort) || !reader.eat(b":") || !reader.eat(b":") || !reader.eat(b"=") {
+    if !is_sort(sort) {
+        return None;
+    }
+    if !read_becomes(reader) {
         return None;
     }
     Some((name, sort))
@@ -124,36 +169,49 @@ fn read_head<'a>(reader: &mut Reader<'a>) -> Option<(&'a [u8], &'a [u8])>
 /// Reads the configuration of the one cell `k`.
 fn read_configuration(alloc: Global, sort: &[u8], reader: &mut Reader) -> Result<bool, Memory>
     ensures read { IfOk result (λ found. OnTrue found (Reads (configuration_pieces sort.now) reader.old reader.new)) }
+    ensures shorter { length reader.new ≤ length reader.old }
+    ensures exact { (pieces : List (List ℕ)) (rest : List ℕ) → Reads (configuration_pieces sort.now ++ pieces) reader.old rest
+        → IfOk result (λ found. IsTrue found × Reads pieces reader.new rest) }
 {
     let mut program = Vec::from_slice(alloc, b"$PGM:")?;
     program.extend_from_slice(sort)?;
-    if !reader.eat(b"configuration") || !reader.eat(b"<k>") {
+    if !reader.eat(b"configuration") {
         return Ok(false);
     }
-    if !reader.eat(program.as_slice()) || !reader.eat(b"</k>") {
+    if !reader.eat(b"<k>") {
+        return Ok(false);
+    }
+    if !reader.eat(program.as_slice()) {
+        return Ok(false);
+    }
+    if !reader.eat(b"</k>") {
         return Ok(false);
     }
     Ok(true)
 }
 
-/// Reads the rules and the end of the module. `length` is that of the whole text, in bytes.
+/// Reads the rules and the end of the module. `total` is the length of the whole text, in bytes.
 fn read_rules(
     alloc: Global,
     productions: &[Production],
     sort: &[u8],
-    length: usize,
+    total: usize,
     reader: &mut Reader,
 ) -> Result<Option<Vec<SmallRule>>, Memory>
     ensures small { IfOk result (λ found. IfSome found (λ rules. AllByRecursion (IsSmallRule productions.now) rules.items)) }
     ensures read { IfOk result (λ found. IfSome found (λ rules.
         Reads (rules_pieces (labels_of productions.now) sort.now rules.items ++ codes "endmodule" ∷ []) reader.old reader.new)) }
+    ensures exact { (rules : List Rule) (pieces : List (List ℕ)) (rest : List ℕ) → HaveLabels productions.now → IsTrue (sort_name sort.now)
+        → length reader.old ≤ 2 ^ 32 → AllByRecursion (IsSmallRule productions.now) rules
+        → Reads (rules_pieces (labels_of productions.now) sort.now rules ++ codes "endmodule" ∷ pieces) reader.old rest
+        → IfOk result (λ found. IsSomeAnd found (λ read. map unplaced_rule read.items ≡ map unplaced_rule rules) × Reads pieces reader.new rest) }
 {
     let mut rules = Vec::new(alloc);
     loop {
         if reader.eat(b"endmodule") {
             return Ok(Some(rules));
         }
-        let at = length.saturating_sub(reader.rest().len());
+        let at = total.saturating_sub(reader.rest().len());
         match read_rule(alloc, productions, sort, at, reader)? {
             Some(rule) => rules.push(rule)?,
             None => return Ok(None),
@@ -175,6 +233,7 @@ fn have_different_labels(alloc: Global, productions: &[Production]) -> Result<bo
 /// Reads a definition of the small form; `None` where the text is none.
 pub fn read_definition(alloc: Global, text: &[u8]) -> Result<Option<Small>, Memory>
     ensures read { IfOk result (λ found. IfSome found (IsSmallText text.now)) }
+    ensures exact { (d : Definition) → IsSmallText text.now d → IfOk result (λ found. option_map unplaced found ≡ Some (unplaced d)) }
 {
     let mut reader = Reader::new(text);
     if text.len() > DEFINITION_LIMIT {
@@ -186,9 +245,12 @@ pub fn read_definition(alloc: Global, text: &[u8]) -> Result<Option<Small>, Memo
     let Some(productions) = read_productions(alloc, sort, &mut reader)? else {
         return Ok(None);
     };
-    if !have_different_labels(alloc, productions.as_slice())?
-        || !read_configuration(alloc, sort, &mut reader)?
-    {
+    let different = have_different_labels(alloc, productions.as_slice())?;
+    if !different {
+        return Ok(None);
+    }
+    let configured = read_configuration(alloc, sort, &mut reader)?;
+    if !configured {
         return Ok(None);
     }
     let Some(rules) = read_rules(alloc, productions.as_slice(), sort, text.len(), &mut reader)?

@@ -1,8 +1,11 @@
-ghost use Rattle.std.specs.Prelude.{◌≡◌, ℕ, ◌++◌, ◌↔◌, length, map, codes, IsTrue, IfOk, OnOk};
+ghost use Rattle.std.specs.Prelude.{◌≡◌, ℕ, ◌<◌, ◌≤◌, List, [], ◌∷◌, ◌++◌, ◌↔◌, length, map, codes, IsTrue, IfOk, OnOk, IfSome, OnSome, IsSomeAnd, Option};
+ghost use Rattle.std.specs.Bool.{OnTrue};
+ghost use Rattle.std.specs.Option.{option_copied, option_to_list};
+ghost use Rattle.small_form.specs.Pieces.{Reads};
 ghost use Rattle.std.specs.List.{list_all, list_any, flat_map};
-ghost use Rattle.small_form.specs.Small.{same_text, is_among as among, are_different as different, reserved_words, built_in_sorts, is_label as label, is_variable as variable, is_sort as sort, typed, variables_of, numbers_from};
+ghost use Rattle.small_form.specs.Small.{same_text, is_among as among, are_different as different, reserved_words, built_in_sorts, is_label as label, is_variable as variable, is_sort as sort_name, typed, variables_of, numbers_from, IsLeftPiece, HasNames};
 
-use crate::reader::{is_capital, is_small, is_word, leading_blanks, leading_word};
+use crate::reader::{Reader, is_capital, is_small, is_word};
 use k_terms::{Many, Memory, Text};
 use rule_terms::Pattern;
 use std::alloc::Global;
@@ -67,7 +70,7 @@ pub fn is_variable(text: &[u8]) -> bool
 
 /// Whether a text can be the sort: a word that begins with a capital and is no built-in sort.
 pub fn is_sort(text: &[u8]) -> bool
-    ensures { result ≡ sort text.now }
+    ensures { result ≡ sort_name text.now }
 {
     is_variable(text) && !is_built_in(text)
 }
@@ -107,24 +110,72 @@ pub fn typed_names(alloc: Global, sort: &[u8], names: &[Text]) -> Result<Vec<Tex
     Ok(texts)
 }
 
-/// The names before the colons at the front of a text, up to an equals sign: the variables of a rule's left side, where
-/// it is one.
-pub fn left_names(alloc: Global, text: &[u8]) -> Result<Vec<Text>, Memory> {
+/// Reads a parenthesis or a comma.
+fn read_mark(reader: &mut Reader) -> bool
+    ensures shorter { OnTrue result (length reader.new < length reader.old) }
+    ensures exact { (piece : List ℕ) (pieces : List (List ℕ)) (rest : List ℕ) → IsTrue (among (codes "(" ∷ codes "," ∷ codes ")" ∷ []) piece)
+        → Reads (piece ∷ pieces) reader.old rest → IsTrue result × Reads pieces reader.new rest }
+{
+    if reader.eat(b"(") {
+        return true;
+    }
+    if reader.eat(b",") {
+        return true;
+    }
+    reader.eat(b")")
+}
+
+/// Reads the next piece of a rule's left side, and gives the name where it is a variable with its sort; the outer `None`
+/// where no such piece stands.
+fn left_piece<'a>(sort: &[u8], reader: &mut Reader<'a>) -> Option<Option<&'a [u8]>>
+    ensures shorter { OnSome result (length reader.new < length reader.old) }
+    ensures exact { (piece : List ℕ) (name : Option (List ℕ)) (pieces : List (List ℕ)) (rest : List ℕ) → IsTrue (sort_name sort.now)
+        → IsLeftPiece sort.now piece name → Reads (piece ∷ pieces) reader.old rest
+        → IsSomeAnd result (λ found. option_copied found ≡ name) × Reads pieces reader.new rest }
+{
+    let Some(word) = reader.word() else {
+        return read_mark(reader).then_some(None);
+    };
+    if !is_variable(word) {
+        return Some(None);
+    }
+    if !reader.eat(b":") {
+        return None;
+    }
+    if !reader.eat(sort) {
+        return None;
+    }
+    Some(Some(word))
+}
+
+/// Adds the name, if there is one.
+fn push_name(alloc: Global, names: &mut Vec<Text>, name: Option<&[u8]>) -> Result<(), Memory>
+    ensures ok { OnOk result (names.new.items ≡ names.old.items ++ option_to_list (option_copied name.entry)) }
+{
+    if let Some(bytes) = name {
+        names.push(Many::from_vec(Vec::from_slice(alloc, bytes)?))?;
+    }
+    Ok(())
+}
+
+/// The names of the variables of a rule's left side, which stands at the front of a text, up to the arrow.
+pub fn left_names(alloc: Global, sort: &[u8], text: &[u8]) -> Result<Option<Vec<Text>>, Memory>
+    ensures few { IfOk result (λ found. IfSome found (λ names. length names.items ≤ length text.now)) }
+    ensures exact { (left : List (List ℕ)) (names : List (List ℕ)) (pieces : List (List ℕ)) (rest : List ℕ) → IsTrue (sort_name sort.now)
+        → HasNames sort.now left names → Reads (left ++ codes "=>" ∷ pieces) text.now rest
+        → IfOk result (λ found. IsSomeAnd found (λ read. read.items ≡ names)) }
+{
     let mut names = Vec::new(alloc);
-    let mut rest = text;
-    for _ in 0..text.len() {
-        let (_, piece) = rest.split_at(leading_blanks(rest));
-        let (word, after) = piece.split_at(leading_word(piece));
-        match after.split_first() {
-            None | Some((b'=', _)) => break,
-            Some((b':', next)) if is_variable(word) => {
-                names.push(Many::from_vec(Vec::from_slice(alloc, word)?))?;
-                rest = next;
-            }
-            Some((_, next)) => rest = next,
+    let mut reader = Reader::new(text);
+    loop {
+        if reader.eat(b"=>") {
+            return Ok(Some(names));
+        }
+        match left_piece(sort, &mut reader) {
+            Some(name) => push_name(alloc, &mut names, name)?,
+            None => return Ok(None),
         }
     }
-    Ok(names)
 }
 
 /// Adds the variables of a term, in the order in which they stand.

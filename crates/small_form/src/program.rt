@@ -1,4 +1,8 @@
-ghost use Rattle.std.specs.Prelude.{◌≡◌, ℕ, List, map, IfSome, IfOk};
+ghost use Rattle.std.specs.Prelude.{◌≡◌, ℕ, List, map, IfSome, IfOk, IsTrue, IsSome, Some};
+ghost use Rattle.std.specs.List.{list_all};
+ghost use Rattle.k_terms.specs.declared.value.Value.{Value as Val};
+ghost use Rattle.small_form.specs.declared.small.Production.{Production as Prod};
+ghost use Rattle.small_form.specs.Small.{is_term, HaveLabels};
 ghost use Rattle.small_form.specs.Program.{term_of, IsTermText};
 
 use crate::reader::Reader;
@@ -18,6 +22,7 @@ pub const DEPTH_LIMIT: u32 = 400;
 #[cycle(values)]
 fn value_of(alloc: Global, pattern: &Pattern) -> Result<Option<Value>, Memory>
     ensures term { IfOk result (λ found. IfSome found (λ v. term_of v ≡ pattern.now)) }
+    ensures ground { (productions : List Prod) → IsTrue (is_term productions 0 pattern.now) → IfOk result IsSome }
 {
     let Pattern::Node(production, parts) = pattern else {
         return Ok(None);
@@ -31,6 +36,7 @@ fn value_of(alloc: Global, pattern: &Pattern) -> Result<Option<Value>, Memory>
 #[cycle(values)]
 fn values_of(alloc: Global, patterns: &[Pattern]) -> Result<Option<Vec<Value>>, Memory>
     ensures terms { IfOk result (λ found. IfSome found (λ vs. map term_of vs.items ≡ patterns.now)) }
+    ensures ground { (productions : List Prod) → IsTrue (list_all (is_term productions 0) patterns.now) → IfOk result IsSome }
 {
     let mut values = Vec::new(alloc);
     for pattern in patterns {
@@ -49,6 +55,7 @@ pub fn read_program(
     text: &[u8],
 ) -> Result<Option<Value>, Memory>
     ensures read { IfOk result (λ found. IfSome found (IsTermText productions.now text.now)) }
+    ensures exact { (v : Val) → HaveLabels productions.now → IsTermText productions.now text.now v → IfOk result (λ found. found ≡ Some v) }
 {
     if text.len() > PROGRAM_LIMIT {
         return Ok(None);

@@ -1,7 +1,8 @@
-ghost use Rattle.std.specs.Prelude.{◌≡◌, ℕ, ◌+◌, ◌<◌, ◌≤◌, ◌↔◌, List, [], ◌∷◌, ◌++◌, length, take, IsTrue, IfSome, IfNone, OnSome, false, slice_index};
+ghost use Rattle.std.specs.Prelude.{◌≡◌, ℕ, ◌+◌, ◌<◌, ◌≤◌, ◌↔◌, List, [], ◌∷◌, ◌++◌, length, take, IsTrue, IfSome, IfNone, OnSome, Some, false, slice_index};
 ghost use Rattle.std.specs.Bool.{OnTrue, OnFalse};
+ghost use Rattle.std.specs.Option.{option_copied};
 ghost use Rattle.std.specs.List.{list_all};
-ghost use Rattle.small_form.specs.Pieces.{is_blank as blank, is_capital as capital, is_small as small, starts_word as opens_word, continues_word as in_word, is_word as word, begins_in_word as opens_in_word, ends_in_word as closes_in_word, is_apart as apart, Reads};
+ghost use Rattle.small_form.specs.Pieces.{is_blank as blank, is_capital as capital, is_small as small, starts_word as opens_word, continues_word as in_word, is_word as word, begins_in_word as opens_in_word, ends_in_word as closes_in_word, is_apart as apart, is_solid, Reads};
 
 use std::marker::Model;
 
@@ -138,15 +139,18 @@ impl<'a> Reader<'a> {
         ensures kept { OnFalse result (self.new ≡ self.old) }
         ensures shorter { length self.new ≤ length self.old }
         ensures piece_shorter { OnTrue result (length piece.now + length self.new ≤ length self.old) }
+        ensures exact { (pieces : List (List ℕ)) (rest : List ℕ) → IsTrue (is_solid piece.now) → Reads (piece.now ∷ pieces) self.old rest
+            → IsTrue result × Reads pieces self.new rest }
     {
         let (_, text) = self.rest.split_at(leading_blanks(self.rest));
-        match text.strip_prefix(piece) {
-            Some(after) if is_apart(piece, after) => {
-                self.rest = after;
-                true
-            }
-            _ => false,
+        let Some(after) = text.strip_prefix(piece) else {
+            return false;
+        };
+        if !is_apart(piece, after) {
+            return false;
         }
+        self.rest = after;
+        true
     }
 
     /// Reads a word.
@@ -155,14 +159,18 @@ impl<'a> Reader<'a> {
         ensures read { IfSome result (λ piece. Reads (piece.now ∷ []) self.old self.new) }
         ensures kept { IfNone result (self.new ≡ self.old) }
         ensures shorter { OnSome result (length self.new < length self.old) }
+        ensures exact { (piece : List ℕ) (pieces : List (List ℕ)) (rest : List ℕ) → IsTrue (word piece) → Reads (piece ∷ pieces) self.old rest
+            → (option_copied result ≡ Some piece) × Reads pieces self.new rest }
     {
         let (_, text) = self.rest.split_at(leading_blanks(self.rest));
         let (piece, after) = text.split_at(leading_word(text));
-        if is_word(piece) && is_apart(piece, after) {
-            self.rest = after;
-            Some(piece)
-        } else {
-            None
+        if !is_word(piece) {
+            return None;
         }
+        if !is_apart(piece, after) {
+            return None;
+        }
+        self.rest = after;
+        Some(piece)
     }
 }

@@ -1,7 +1,9 @@
-ghost use Rattle.std.specs.Prelude.{◌≡◌, ℕ, ◌<◌, ◌≤◌, List, length, codes, IsTrue, IfSome, OnSome, IfOk};
+ghost use Rattle.std.specs.Prelude.{◌≡◌, ℕ, ◌<◌, ◌≤◌, ◌^◌, List, ◌++◌, length, codes, IsTrue, IfSome, OnSome, IfOk, Some};
+ghost use Rattle.std.specs.Option.{option_map};
+ghost use Rattle.small_form.specs.declared.small.SmallRule.{SmallRule as Rule};
 ghost use Rattle.std.specs.List.{list_all};
 ghost use Rattle.small_form.specs.Pieces.{Reads};
-ghost use Rattle.small_form.specs.Small.{is_variable as variable, is_applied as applied, rule_pieces, labels_of, IsSmallRule};
+ghost use Rattle.small_form.specs.Small.{is_variable as variable, is_applied as applied, is_sort, rule_pieces, labels_of, unplaced_rule, HaveLabels, IsSmallRule};
 
 use crate::names::{are_different, is_variable, left_names, stand_in_order, typed_names};
 use crate::reader::Reader;
@@ -35,19 +37,32 @@ pub fn read_rule(
     ensures read { IfOk result (λ found. IfSome found (λ rule.
         Reads (rule_pieces (labels_of productions.now) sort.now rule) reader.old reader.new)) }
     ensures shorter { IfOk result (λ found. OnSome found (length reader.new < length reader.old)) }
+    ensures exact { (r : Rule) (pieces : List (List ℕ)) (rest : List ℕ) → HaveLabels productions.now → IsTrue (is_sort sort.now)
+        → length reader.old ≤ 2 ^ 32 → IsSmallRule productions.now r
+        → Reads (rule_pieces (labels_of productions.now) sort.now r ++ pieces) reader.old rest
+        → IfOk result (λ found. (option_map unplaced_rule found ≡ Some (unplaced_rule r)) × Reads pieces reader.new rest) }
 {
     if !reader.eat(b"rule") {
         return Ok(None);
     }
-    let names = left_names(alloc, reader.rest())?;
-    if !are_variables(names.as_slice()) || !are_different(names.as_slice()) {
+    let Some(names) = left_names(alloc, sort, reader.rest())? else {
+        return Ok(None);
+    };
+    if !are_variables(names.as_slice()) {
+        return Ok(None);
+    }
+    if !are_different(names.as_slice()) {
         return Ok(None);
     }
     let typed = typed_names(alloc, sort, names.as_slice())?;
     let Some(left) = read_term(alloc, productions, typed.as_slice(), reader)? else {
         return Ok(None);
     };
-    if !is_applied(&left) || !stand_in_order(alloc, &left, names.len())? {
+    if !is_applied(&left) {
+        return Ok(None);
+    }
+    let in_order = stand_in_order(alloc, &left, names.len())?;
+    if !in_order {
         return Ok(None);
     }
     if !reader.eat(b"=>") {
