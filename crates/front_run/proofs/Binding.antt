@@ -49,7 +49,7 @@ pub parts_shallow : (p : ℕ) (vs : List Value) → depth_of (Node p vs) ≤ dep
 parts_shallow p vs h = shallow_parts vs (let deep : suc (greatest_depth vs) ≤ depth_limit = subst (λ d. d ≤ depth_limit) (depth_of-Node p vs) h in omega arith)
 
 -- further bound values change nothing that is bound
-wholes_extend : (before more : List (Bor Value)) (tail : Subst) → wholes (before ++ more) ++ tail ≡ wholes before ++ (wholes more ++ tail)
+pub wholes_extend : (before more : List (Bor Value)) (tail : Subst) → wholes (before ++ more) ++ tail ≡ wholes before ++ (wholes more ++ tail)
 wholes_extend before more tail = ap (λ s. s ++ tail) (map-append (λ (b : Bor Value). Whole b.now) before more) ∙ append_assoc (wholes before) (wholes more) tail
 
 pub AreAt-extends : (before after : List (Bor Value)) (ps : List Pattern) (vs : List Value) → Extends before after → AreAt before ps vs → AreAt after ps vs

@@ -8,7 +8,7 @@ use Rattle.k_terms.specs.declared.value.Value.{Value, Seq}
 use Rattle.k_terms.specs.declared.value.Value.TheVariants.{outs-Seq}
 use Rattle.k_terms.specs.declared.value.Value.TheOpen.{Seq as Seq-F}
 use Rattle.k_terms.specs.declared.value.Content.TheVariants.{Seq as SeqContent}
-use Rattle.k_terms.specs.Sorts.{SortOrder, Below, sort_k}
+use Rattle.k_terms.specs.Sorts.{SortOrder}
 use Rattle.rule_terms.specs.declared.pattern.Pattern.{Pattern}
 use Rattle.rule_terms.specs.declared.pattern.Body.{Seq as SeqBody}
 use Rattle.rule_terms.specs.declared.pattern.CellPat.{CellPat}
@@ -22,13 +22,14 @@ use Rattle.rule_terms.specs.Fill.{content_of, fill_body, plain_cell}
 use Rattle.rule_terms.specs.Language.{Language, rule_at}
 use Rattle.rule_terms.specs.Rewriting.{Suits}
 use Rattle.live_config.specs.declared.site.Site.{Site}
-use Rattle.live_config.specs.declared.site.Fired.{Fired}
-use Rattle.live_config.specs.Configuration.{Configuration, way_up}
+use Rattle.live_config.specs.Configuration.{way_up}
 use Rattle.rule_terms.specs.Spots.{spots_in}
-use Rattle.live_config.specs.Firing.{Fires, Leads}
+use Rattle.live_config.specs.Firing.{Fires}
 use Rattle.front_run.specs.Bindings.{wholes, IsAt}
-use Rattle.front_run.specs.Front.{cell_of, one_cell, Rewrites}
+use Rattle.front_run.specs.Front.{cell_of, one_cell, HasParts, Rewrites}
 use Rattle.front_run.proofs.Binding.{AreOfSorts-append}
+use Rattle.front_run.proofs.Matching.{AreOfSorts-length}
+use Rattle.std.proofs.lemmas.List.{length-map}
 
 as_sequence-Seq : (vs : List Value) → as_sequence (Seq vs) ≡ Some vs
 as_sequence-Seq vs = ap (λ v. elim v as (λ _. Option (List Value)) [ Seq-F values ↦ Some values | _ ↦ None ]) (outs-Seq vs)
@@ -48,27 +49,27 @@ front_content bound p x v others at is =
     ∙ ap (λ o. option_and_then as_sequence (option_and_then whole_of o)) (last_bound bound (Whole (Seq others))) ∙ as_sequence-Seq others in
     ap (option_map SeqContent) ((λ i. joined (first i) (rest i)))
 
--- what the code tests is what rewriting asks
-pub rewrites : (o : SortOrder) (r : Rule) (left right : Pattern) (x y : ℕ) (variables : List ℕ) (last : ℕ) (bound : List (Bor Value)) (first made : Value) (others : List Value)
-    → r.left.cell ≡ 0 → r.right.cell ≡ 0 → r.left.mark ≡ 0 → r.right.mark ≡ 0 → r.left.body ≡ SeqBody (left ∷ []) (Some x) → r.right.body ≡ SeqBody (right ∷ []) (Some y)
-    → y ≡ x → r.when ≡ [] → r.vars ≡ variables ++ last ∷ [] → Below o sort_k last → x ≡ length bound
-    → IsAt bound left first → IsAt bound right made → AreOfSorts o variables (wholes bound)
+-- a rule whose left term is the first value and whose right term is another rewrites the sequence
+pub rewrites : (o : SortOrder) (r : Rule) (left right : Pattern) (variables : List ℕ) (bound : List (Bor Value)) (first made : Value) (others : List Value)
+    → HasParts o r left right variables → IsAt bound left first → IsAt bound right made → AreOfSorts o variables (wholes bound)
     → Rewrites o r (wholes bound ++ Whole (Seq others) ∷ []) (first ∷ others) (made ∷ others)
-rewrites o r left right x y variables last bound first made others left_cell right_cell left_mark right_mark left_is right_is same_rest when vars below count left_at right_at sorts =
+rewrites o r left right variables bound first made others parts left_at right_at sorts =
     let s = wholes bound ++ Whole (Seq others) ∷ [] in
+    let x = length variables in
+    let count : x ≡ length bound = AreOfSorts-length o variables (wholes bound) sorts ∙ length-map bound (λ (b : Bor Value). Whole b.now) in
     record {
       left_parts = left ∷ [];
       right_parts = right ∷ [];
       left_rest = Some x;
-      right_rest = Some y;
-      left_front = record { cell = left_cell; mark = left_mark; body = left_is };
-      right_front = record { cell = right_cell; mark = right_mark; body = right_is };
+      right_rest = Some x;
+      left_front = parts.left_front;
+      right_front = parts.right_front;
       suits = record {
-        sorts = subst (λ xs. AreOfSorts o xs s) (sym vars) (AreOfSorts-append o variables (wholes bound) last (Whole (Seq others)) sorts below);
-        conditions = subst (λ cs. AllByRecursion (IsMet o s) cs) (sym when) tt;
+        sorts = subst (λ xs. AreOfSorts o xs s) (sym parts.sorts) (AreOfSorts-append o variables (wholes bound) parts.rest_sort (Whole (Seq others)) sorts parts.rest);
+        conditions = subst (λ cs. AllByRecursion (IsMet o s) cs) (sym parts.unconditional) tt;
       };
-      left = ap (λ b. content_of b s) left_is ∙ front_content bound left x first others left_at count;
-      right = ap (λ b. content_of b s) right_is ∙ front_content bound right y made others right_at (same_rest ∙ count);
+      left = ap (λ b. content_of b s) parts.left_front.body ∙ front_content bound left x first others left_at count;
+      right = ap (λ b. content_of b s) parts.right_front.body ∙ front_content bound right x made others right_at count;
     }
 
 -- the site of a rule at the front of the one cell
@@ -119,10 +120,3 @@ front_fires d number r s values new is rewrites =
     (subst (λ q. Suits d.sorts q s) same rewrites.suits)
     (ap (λ b. content_of b s) (sym rewrites.left_front.body) ∙ rewrites.left)
     (ap (λ b. content_of b s) (sym rewrites.right_front.body) ∙ rewrites.right))
-
--- one more firing at the end of a log
-pub Leads-more : (d : Language) (a b c : Configuration) (entries : List Fired) (entry : Fired) (r : Rule) (s : Subst)
-    → Leads d a entries b → Fires d b entry.site entry.births r s c → Leads d a (entries ++ entry ∷ []) c
-Leads-more d a b c [] entry r s leads fires = (r, s, c, subst (λ t. Fires d t entry.site entry.births r s c) (sym leads) fires, refl)
-Leads-more d a b c (e ∷ entries) entry r s leads fires =
-    (leads.0, leads.1, leads.2, leads.3, Leads-more d leads.2 b c entries entry r s leads.4 fires)

@@ -1,2 +1,6 @@
 mod Binding
 mod Firing
+pub mod Finding
+mod Matching
+pub mod Stepping
+mod Logs

@@ -4,7 +4,7 @@ ghost use Rattle.k_terms.specs.Value.{depth_of};
 ghost use Rattle.k_terms.specs.Operators.{depth_limit};
 ghost use Rattle.k_terms.specs.Sorts.{SortOrder};
 ghost use Rattle.rule_terms.specs.Substitution.{AreOfSorts};
-ghost use Rattle.front_run.specs.Bindings.{wholes, IsAt, AreAt, Extends};
+ghost use Rattle.front_run.specs.Bindings.{wholes, IsAt, AreAt, Extends, Finds, FindsAll};
 ghost use Rattle.std.specs.List.{AllByRecursion};
 
 use k_terms::{Memory, Value};
@@ -20,6 +20,7 @@ pub fn bind<'a>(
 ) -> Result<bool, Memory>
     ensures extends { Extends bound.old.items bound.new.items }
     ensures at { depth_of value.now ≤ depth_limit → IfOk result (λ found. OnTrue found (IsAt bound.new.items pattern.now value.now)) }
+    ensures finds { IfOk result (Finds bound.old.items bound.new.items pattern.now value.now) }
 {
     match pattern {
         Pattern::Var(number) => {
@@ -30,7 +31,10 @@ pub fn bind<'a>(
             Ok(true)
         }
         Pattern::Node(production, patterns) => match value {
-            Value::Node(other, values) if *production == *other => {
+            Value::Node(other, values) => {
+                if *production != *other {
+                    return Ok(false);
+                }
                 let found = bind_all(patterns.as_slice(), values.as_slice(), bound)?;
                 Ok(found)
             }
@@ -49,6 +53,7 @@ fn bind_all<'a>(
     ensures extends { Extends bound.old.items bound.new.items }
     ensures at { AllByRecursion (λ v. depth_of v ≤ depth_limit) values.now →
         IfOk result (λ found. OnTrue found (AreAt bound.new.items patterns.now values.now)) }
+    ensures finds { IfOk result (FindsAll bound.old.items bound.new.items patterns.now values.now) }
 {
     if patterns.len() != values.len() {
         return Ok(false);

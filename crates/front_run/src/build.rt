@@ -1,5 +1,7 @@
-ghost use Rattle.std.specs.Prelude.{◌≡◌, ℕ, IfOk, IfSome};
-ghost use Rattle.front_run.specs.Bindings.{IsAt, AreAt};
+ghost use Rattle.std.specs.Prelude.{◌≡◌, ℕ, length, IsTrue, IfOk, IfSome, IfNone};
+ghost use Rattle.std.specs.List.{list_all};
+ghost use Rattle.front_run.specs.Bindings.{IsAt, AreAt, IsUndefined, AreUndefined};
+ghost use Rattle.front_run.specs.Front.{is_front_term};
 
 use k_terms::{Many, Memory, Value, copy, depth};
 use rule_terms::Pattern;
@@ -13,6 +15,8 @@ pub const DEPTH_LIMIT: u32 = 400;
 #[cycle(building)]
 pub fn build(alloc: Global, pattern: &Pattern, bound: &[&Value]) -> Result<Option<Value>, Memory>
     ensures at { IfOk result (λ found. IfSome found (IsAt bound.now pattern.now)) }
+    ensures none { IfOk result (λ found. IfNone found (
+        IsTrue (is_front_term (length bound.now) pattern.now) → IsUndefined bound.now pattern.now)) }
 {
     match pattern {
         Pattern::Var(number) => {
@@ -44,6 +48,8 @@ fn build_all(
     bound: &[&Value],
 ) -> Result<Option<Vec<Value>>, Memory>
     ensures at { IfOk result (λ found. IfSome found (λ values. AreAt bound.now patterns.now values.items)) }
+    ensures none { IfOk result (λ found. IfNone found (
+        IsTrue (list_all (is_front_term (length bound.now)) patterns.now) → AreUndefined bound.now patterns.now)) }
 {
     let mut values = Vec::new(alloc);
     for pattern in patterns {

@@ -3,6 +3,7 @@
 
 mod bind;
 mod build;
+pub mod laws;
 mod rewrite;
 mod runs;
 

@@ -1,9 +1,7 @@
-ghost use Rattle.std.specs.Prelude.{◌≡◌, ℕ, [], ◌∷◌, ◌++◌, Some, IfOk, IfSome, OnOk};
-ghost use Rattle.std.specs.Bool.{OnTrue};
-ghost use Rattle.rule_terms.specs.declared.pattern.Body.{Seq as SeqBody};
+ghost use Rattle.std.specs.Prelude.{◌≡◌, ◌↔◌, ℕ, List, [], ◌∷◌, ◌++◌, Some, IsTrue, IfOk, IfSome, IfNone, OnOk};
 ghost use Rattle.rule_terms.specs.Substitution.{Subst, AreOfSorts};
 ghost use Rattle.front_run.specs.Bindings.{wholes};
-ghost use Rattle.front_run.specs.Front.{Rewrites};
+ghost use Rattle.front_run.specs.Front.{IsFront, HasParts, IsFrontRule, Rewrites};
 
 use crate::bind::bind;
 use crate::build::{DEPTH_LIMIT, build};
@@ -13,9 +11,8 @@ use std::alloc::Global;
 
 /// The term and the variable of the rest of a side that is one term at the front of the root, where it is one.
 fn front_of(side: &CellPat) -> Option<(&Pattern, u32)>
-    ensures cell { IfSome result (λ _. side.now.cell ≡ 0) }
-    ensures mark { IfSome result (λ _. side.now.mark ≡ 0) }
-    ensures body { IfSome result (λ front. side.now.body ≡ SeqBody (front.0.now ∷ []) (Some front.1)) }
+    ensures front { IfSome result (λ front. IsFront side.now (front.0.now ∷ []) (Some front.1)) }
+    ensures none { IfNone result ((term : Pattern) (rest : ℕ) → IsFront side.now (term ∷ []) (Some rest) → ⊥) }
 {
     let Body::Seq(parts, Some(rest)) = &side.body else {
         return None;
@@ -26,9 +23,38 @@ fn front_of(side: &CellPat) -> Option<(&Pattern, u32)>
     }
 }
 
+/// The terms of a rule that makes another term of one at the front, and the sorts of their variables.
+#[derive(Clone, Copy)]
+struct Parts<'a> {
+    left: &'a Pattern,
+    right: &'a Pattern,
+    variables: &'a [u32],
+}
+
+/// The parts of a rule that makes another term of one at the front, keeps the rest and has no condition.
+fn parts_of<'a>(sorts: &Sorts, rule: &'a Rule) -> Option<Parts<'a>>
+    ensures parts { IfSome result (λ parts. HasParts sorts.now rule.now parts.left.now parts.right.now parts.variables.now) }
+    ensures none { IfNone result ((left right : Pattern) (variables : List ℕ) → HasParts sorts.now rule.now left right variables → ⊥) }
+{
+    let (left, rest) = front_of(&rule.left)?;
+    let (right, right_rest) = front_of(&rule.right)?;
+    let (rest_sort, variables) = rule.vars.as_slice().split_last()?;
+    if !rule.when.is_empty() || !sorts.below(sort::K, *rest_sort) {
+        return None;
+    }
+    if rest as usize != variables.len() || right_rest != rest {
+        return None;
+    }
+    Some(Parts {
+        left,
+        right,
+        variables,
+    })
+}
+
 /// Whether each value is of its variable's sort.
 fn are_of_sorts(sorts: &Sorts, variables: &[u32], bound: &[&Value]) -> bool
-    ensures { OnTrue result (AreOfSorts sorts.now variables.now (wholes bound.now)) }
+    ensures { IsTrue result ↔ AreOfSorts sorts.now variables.now (wholes bound.now) }
 {
     if variables.len() != bound.len() {
         return false;
@@ -62,33 +88,26 @@ pub fn rewrite(
     values: &[Value],
 ) -> Result<Option<Values>, Memory>
     ensures rewrites { IfOk result (λ found. IfSome found (λ new. (s : Subst) × Rewrites sorts.now rule.now s values.now new)) }
+    ensures none { IfOk result (λ found. IfNone found (IsFrontRule sorts.now rule.now →
+        (s : Subst) (new : List Value) → Rewrites sorts.now rule.now s values.now new → ⊥)) }
 {
-    let Some((left, rest)) = front_of(&rule.left) else {
+    let Some(parts) = parts_of(sorts, rule) else {
         return Ok(None);
     };
-    let Some((right, right_rest)) = front_of(&rule.right) else {
-        return Ok(None);
-    };
-    if right_rest != rest || !rule.when.is_empty() {
-        return Ok(None);
-    }
     let Some((first, others)) = values.split_first() else {
         return Ok(None);
     };
-    let Some((rest_sort, variables)) = rule.vars.as_slice().split_last() else {
-        return Ok(None);
-    };
-    if depth(first) > DEPTH_LIMIT || !sorts.below(sort::K, *rest_sort) {
+    if depth(first) > DEPTH_LIMIT {
         return Ok(None);
     }
     let mut bound = Vec::new(alloc);
-    if !bind(left, first, &mut bound)? || bound.len() != rest as usize {
+    if !bind(parts.left, first, &mut bound)? {
         return Ok(None);
     }
-    if !are_of_sorts(sorts, variables, bound.as_slice()) {
+    if !are_of_sorts(sorts, parts.variables, bound.as_slice()) {
         return Ok(None);
     }
-    let Some(made) = build(alloc, right, bound.as_slice())? else {
+    let Some(made) = build(alloc, parts.right, bound.as_slice())? else {
         return Ok(None);
     };
     Ok(Some(put_before(alloc, made, others)?))

@@ -1,10 +1,13 @@
-ghost use Rattle.std.specs.Prelude.{◌≡◌, ℕ, ◌≤◌, ◌∷◌, [], length, Some, IfOk, IfSome, OnOk};
+ghost use Rattle.std.specs.Prelude.{◌≡◌, ℕ, ◌≤◌, ◌∷◌, [], length, Some, IfOk, IfSome, IfNone, OnOk};
 ghost use Rattle.rule_terms.specs.declared.rule.Rule.{Rule};
 ghost use Rattle.rule_terms.specs.Substitution.{Subst};
 ghost use Rattle.rule_terms.specs.Language.{rule_at};
+ghost use Rattle.rule_terms.specs.Rewriting.{IsStuck};
 ghost use Rattle.live_config.specs.Configuration.{plain};
-ghost use Rattle.live_config.specs.Firing.{Leads};
-ghost use Rattle.front_run.specs.Front.{one_cell, Rewrites, front_entry};
+ghost use Rattle.std.specs.List.{AllByRecursion};
+ghost use Rattle.live_config.specs.declared.site.Fired.{Fired as FiredEntry};
+ghost use Rattle.live_config.specs.Runs.{IsLog};
+ghost use Rattle.front_run.specs.Front.{one_cell, Rewrites, NoneRewrites, AreFrontRules, front_entry};
 
 use crate::rewrite::rewrite;
 use k_terms::{CellList, Content, Many, Memory, Value, Values, copy_values};
@@ -45,7 +48,8 @@ fn entry(alloc: Global, rule: u32) -> Result<Fired, Memory>
     })
 }
 
-/// The least rule that matches at the front, by its number, and what it makes of the sequence.
+/// The least rule that matches at the front, by its number, and what it makes of the sequence. A definition of more rules
+/// than numbers count is more than memory holds.
 fn first_rewrite(
     alloc: Global,
     defs: &Defs,
@@ -53,6 +57,8 @@ fn first_rewrite(
 ) -> Result<Option<(u32, Values)>, Memory>
     ensures rewrites { IfOk result (λ found. IfSome found (λ next. (r : Rule) × (s : Subst) ×
         (rule_at defs.now next.0 ≡ Some r) × Rewrites defs.now.sorts r s values.now next.1)) }
+    ensures least { IfOk result (λ found. IfSome found (λ next. NoneRewrites defs.now values.now next.0)) }
+    ensures none { IfOk result (λ found. IfNone found ((number : ℕ) → NoneRewrites defs.now values.now number)) }
 {
     for number in 1..u32::MAX {
         let Some(rule) = defs.rule(number) else {
@@ -62,7 +68,7 @@ fn first_rewrite(
             return Ok(Some((number, next)));
         }
     }
-    Ok(None)
+    Err(Memory)
 }
 
 /// The configuration of the one cell `k`, whose number is 1, with this sequence.
@@ -111,10 +117,13 @@ fn ended(alloc: Global, ending: Ending, fired: Vec<Fired>, values: Values) -> Re
 /// Runs a program at the front of the one cell `k`: fires the least rule that matches until none does, or until as many
 /// as the budget have fired.
 pub fn run_program(alloc: Global, defs: &Defs, program: Value, budget: u32) -> Result<Run, Memory>
-    ensures leads { IfOk result (λ run. Leads defs.now (one_cell (program ∷ [])) run.fired run.end.now) }
+    ensures alone { IfOk result (λ run. AllByRecursion (λ (entry : FiredEntry). entry.by ≡ 0) run.fired) }
+    ensures log { IfOk result (λ run. IsLog defs.now (one_cell (program ∷ [])) run.fired run.end.now) }
     ensures plain { IfOk result (λ run. run.plain ≡ plain run.end.now) }
     ensures within { IfOk result (λ run. length run.fired ≤ budget) }
     ensures used_up { IfOk result (λ run. run.ending ≡ Ending.Budget → length run.fired ≡ budget) }
+    ensures stuck { IfOk result (λ run. run.ending ≡ Ending.Final → AreFrontRules defs.now → IsStuck defs.now (plain run.end.now)) }
+    ensures goes_on { IfOk result (λ run. run.ending ≡ Ending.Budget → IsStuck defs.now (plain run.end.now) → ⊥) }
 {
     let mut first = Vec::with_capacity(alloc, 1)?;
     first.push(program)?;
@@ -127,9 +136,8 @@ pub fn run_program(alloc: Global, defs: &Defs, program: Value, budget: u32) -> R
         fired.push(entry(alloc, rule)?)?;
         values = next;
     }
-    let ending = match first_rewrite(alloc, defs, values.as_slice())? {
-        Some(_) => Ending::Budget,
-        None => Ending::Final,
+    let Some(_) = first_rewrite(alloc, defs, values.as_slice())? else {
+        return ended(alloc, Ending::Final, fired, values);
     };
-    ended(alloc, ending, fired, values)
+    ended(alloc, Ending::Budget, fired, values)
 }

@@ -1,1 +1,4 @@
 mod Headlines
+pub mod Fronts
+mod Spelled
+mod Causes

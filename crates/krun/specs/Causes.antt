@@ -1,8 +1,30 @@
 -- When each refusal comes.
-use Rattle.std.specs.Prelude.{◌≡◌, ℕ, List, length, codes}
-use Rattle.krun.specs.Headline.{word_at}
+use Rattle.std.specs.Prelude.{◌≡◌, ℕ, List, length, Option, codes, IsSomeAnd}
+use Rattle.k_terms.specs.declared.value.Value.{Value}
+use Rattle.small_form.specs.declared.small.Small.{Small}
+use Rattle.small_form.specs.Small.{IsSmallText}
+use Rattle.small_form.specs.Program.{IsTermText}
+use Rattle.live_config.specs.declared.site.Fired.{Fired}
+use Rattle.live_config.specs.Live.{LiveState}
+use Rattle.krun.specs.declared.outcome.Outcome.{Outcome}
+use Rattle.krun.specs.Outcome.{status_of, run_word}
+use Rattle.krun.specs.Headline.{word_at, IsRun, Took}
 
 -- the words are a job: the program's name, `run`, and the names of two files
 pub record IsJob (words : List (List ℕ)) : Type 0 where
   pub four : length words ≡ 4
   pub mode : word_at words 1 ≡ codes "run"
+
+-- the bytes are a definition
+abbrev pub IsDefinition : List ℕ → Type 0
+IsDefinition bytes = (d : Small) × IsSmallText bytes d
+
+-- the bytes of a definition and of a program are a definition and a program of it
+abbrev pub IsProgram : List ℕ → List ℕ → Type 0
+IsProgram definition program = (d : Small) × (v : Value) × IsSmallText definition d × IsTermText d.productions program v
+
+-- a run that ended, with its own status, and all of whose text the sink took
+abbrev pub IsWholeRun : Option (List ℕ) → Option (List ℕ) → ℕ → Outcome → List Fired → Option LiveState → Option (List ℕ) → Option (List ℕ) → Type 0
+IsWholeRun definition program status outcome fired end before after =
+    (status ≡ status_of outcome)
+    × IsSomeAnd (run_word outcome) (λ word. (text : List ℕ) × IsRun definition program outcome word fired end text × Took before after text)

@@ -16,6 +16,14 @@ endmodule
 const LOOPING: &str =
     "module L syntax A ::= a() configuration <k> $PGM:A </k> rule a() => a() endmodule";
 
+const TWO_SORTS: &str = "module IMP
+  syntax AExp ::= Int | Id | AExp \"+\" AExp [left, strict]
+  syntax Stmt ::= Id \"=\" AExp \";\" [strict(2)]
+  configuration <T> <k> $PGM:Stmt </k> <state> .Map </state> </T>
+  rule I1:Int + I2:Int => I1 +Int I2
+endmodule
+";
+
 fn file(alloc: Global, name: &str, text: &str) -> Result<(String, Vec<u8>), AllocError> {
     Ok((
         name.to_string(alloc)?,
@@ -62,7 +70,7 @@ fn report_of(
 #[test]
 fn runs_and_refuses(rt: HostRuntime) -> Result<(), Fail> {
     let no_reading = Outcome::Program(ReadRefusal::NoReading { at: 0 });
-    let jobs: [(&str, &str, &str, Outcome, u8, usize); 5] = [
+    let jobs: [(&str, &str, &str, Outcome, u8, usize); 6] = [
         (
             TINY,
             "plus(s(z()),z())",
@@ -91,6 +99,14 @@ fn runs_and_refuses(rt: HostRuntime) -> Result<(), Fail> {
         (
             "module A endmodule",
             "z()",
+            "definition 29 Unbuilt\n",
+            Outcome::Unbuilt,
+            3,
+            0,
+        ),
+        (
+            TWO_SORTS,
+            "int x; x = 1 + 2;",
             "definition 29 Unbuilt\n",
             Outcome::Unbuilt,
             3,

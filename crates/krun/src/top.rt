@@ -1,15 +1,22 @@
 ghost use Rattle.std.specs.Prelude.{◌≡◌, ◌≢◌, ◌↔◌, ◌≤◌, ◌⊎◌, ◌∷◌, [], List, ℕ, Some, None, map, string_bytes, length, IfSome, IfOk, IfErr};
-ghost use Rattle.small_form.specs.Small.{IsSmallText, language_of};
+ghost use Rattle.small_form.specs.declared.small.Small.{Small as Definition};
+ghost use Rattle.small_form.specs.Small.{IsSmall, IsSmallText, HaveLabels, unplaced, language_of};
 ghost use Rattle.small_form.specs.Program.{IsTermText};
 ghost use Rattle.krun.specs.Outcome.{status_of, text_of, run_word};
 ghost use Rattle.krun.specs.Headline.{word_at, caller_fired, run_text as text_of_run, IsRun, Took};
-ghost use Rattle.krun.specs.Causes.{IsJob};
-ghost use Rattle.krun.specs.declared.outcome.Outcome.TheVariants.{Usage as WantOfWords, Memory as WantOfMemory, ReadFault as FaultOf, Budget as OfBudget};
+ghost use Rattle.krun.specs.Causes.{IsJob, IsDefinition, IsProgram, IsWholeRun};
+ghost use Rattle.k_terms.specs.declared.value.Value.{Value as Val};
+ghost use Rattle.rule_terms.specs.Rewriting.{IsStuck};
+ghost use Rattle.live_config.specs.Configuration.{plain};
+ghost use Rattle.krun.specs.declared.outcome.Outcome.TheVariants.{Usage as WantOfWords, Unbuilt as NotOfSmallForm, Program as ProgramRefused, Memory as WantOfMemory, ReadFault as FaultOf, Final as OfFinal, Budget as OfBudget};
+ghost use Rattle.krun.specs.declared.outcome.ReadRefusal.TheVariants.{NoReading};
 ghost use Rattle.krun.specs.declared.outcome.Which.TheVariants.{Definition as TheDefinition, Program as TheProgram};
 ghost use Rattle.k_edge.specs.Faults.{Rose};
 ghost use Rattle.whole_files.specs.Writing.{AppendsFront};
-ghost use Rattle.live_config.specs.Firing.{Leads};
-ghost use Rattle.front_run.specs.Front.{one_cell};
+ghost use Rattle.std.specs.List.{AllByRecursion};
+ghost use Rattle.live_config.specs.declared.site.Fired.{Fired as FiredEntry};
+ghost use Rattle.live_config.specs.Runs.{IsLog};
+ghost use Rattle.front_run.specs.Front.{one_cell, AreFrontRules};
 
 use crate::job::job_of;
 use crate::outcome::{Outcome, ReadRefusal, WRITE_FAULT, Which};
@@ -53,6 +60,8 @@ fn file_bytes<H: Shelf>(
     ensures kept { (other : List ℕ) → H.told shelf.new other ≡ H.told shelf.old other }
     ensures whole { IfSome (H.told shelf.old name.now) (λ file.
         IfOk result (λ bytes. length bytes.items ≤ 4096 → bytes.items ≡ file)) }
+    ensures all { IfSome (H.told shelf.old name.now) (λ file.
+        IfOk result (λ bytes. length file ≤ 4096 → bytes.items ≡ file)) }
     ensures refused { IfErr result (λ refusal. run_word refusal ≡ None) }
     ensures words { IfErr result (λ refusal. refusal ≢ WantOfWords) }
     ensures later { (other : List ℕ) → H.faults shelf.old other ≤ H.faults shelf.new other }
@@ -71,15 +80,25 @@ fn file_bytes<H: Shelf>(
 fn definition_at<H: Shelf>(alloc: Global, shelf: &mut H, name: &str) -> Result<Small, Outcome>
     ensures kept { (other : List ℕ) → H.told shelf.new other ≡ H.told shelf.old other }
     ensures read { IfSome (H.told shelf.old name.now) (λ file. IfOk result (λ small. IsSmallText file small)) }
+    ensures small { IfOk result (λ small. IsSmall small) }
+    ensures labels { IfOk result (λ small. HaveLabels small.productions) }
+    ensures only_one { IfSome (H.told shelf.old name.now) (λ file.
+        IfOk result (λ small. (d : Definition) → IsSmallText file d → unplaced small ≡ unplaced d)) }
+    ensures unbuilt { IfErr result (λ refusal. refusal ≡ NotOfSmallForm →
+        IfSome (H.told shelf.old name.now) (λ file. IsDefinition file → ⊥)) }
     ensures refused { IfErr result (λ refusal. run_word refusal ≡ None) }
     ensures words { IfErr result (λ refusal. refusal ≢ WantOfWords) }
     ensures later { (other : List ℕ) → H.faults shelf.old other ≤ H.faults shelf.new other }
     ensures only { IfErr result (λ refusal. refusal ≢ FaultOf TheProgram) }
+    ensures no_program { (cause : ReadRefusal) → IfErr result (λ refusal. refusal ≢ ProgramRefused cause) }
     ensures fault { IfErr result (λ refusal. refusal ≡ FaultOf TheDefinition →
         Rose (H.faults shelf.old name.now) (H.faults shelf.new name.now)) }
 {
     let bytes = file_bytes(alloc, shelf, name, Which::Definition)?;
-    read_definition(alloc, bytes.as_slice())?.ok_or(Outcome::Unbuilt)
+    let Some(small) = read_definition(alloc, bytes.as_slice())? else {
+        return Err(Outcome::Unbuilt);
+    };
+    Ok(small)
 }
 
 /// The value of the program that a file holds.
@@ -91,16 +110,22 @@ fn program_at<H: Shelf>(
 ) -> Result<Value, Outcome>
     ensures read { IfSome (H.told shelf.old name.now) (λ file.
         IfOk result (λ value. IsTermText small.now.productions file value)) }
+    ensures no_reading { HaveLabels small.now.productions → (cause : ReadRefusal) →
+        IfErr result (λ refusal. refusal ≡ ProgramRefused cause → (cause ≡ NoReading 0) ×
+        IfSome (H.told shelf.old name.now) (λ file. (v : Val) → IsTermText small.now.productions file v → ⊥)) }
     ensures refused { IfErr result (λ refusal. run_word refusal ≡ None) }
     ensures words { IfErr result (λ refusal. refusal ≢ WantOfWords) }
     ensures later { (other : List ℕ) → H.faults shelf.old other ≤ H.faults shelf.new other }
     ensures only { IfErr result (λ refusal. refusal ≢ FaultOf TheDefinition) }
+    ensures no_definition { IfErr result (λ refusal. refusal ≢ NotOfSmallForm) }
     ensures fault { IfErr result (λ refusal. refusal ≡ FaultOf TheProgram →
         Rose (H.faults shelf.old name.now) (H.faults shelf.new name.now)) }
 {
     let bytes = file_bytes(alloc, shelf, name, Which::Program)?;
-    let value = read_program(alloc, small.productions.as_slice(), bytes.as_slice())?;
-    value.ok_or(Outcome::Program(ReadRefusal::NoReading { at: 0 }))
+    let Some(value) = read_program(alloc, small.productions.as_slice(), bytes.as_slice())? else {
+        return Err(Outcome::Program(ReadRefusal::NoReading { at: 0 }));
+    };
+    Ok(value)
 }
 
 /// The number of instances that each worker fired: the caller all, and the others none.
@@ -115,6 +140,7 @@ fn counts_of(alloc: Global, fired: usize) -> Result<Numbers, Memory>
 /// The outcome of a run that ended like this, and its word.
 fn outcome_of(ending: Ending) -> (Outcome, &'static str)
     ensures word { run_word result.0 ≡ Some result.1.now }
+    ensures no_rule { result.0 ≡ OfFinal → ending ≡ Ending.Final }
     ensures budget { result.0 ≡ OfBudget → ending ≡ Ending.Budget }
 {
     match ending {
@@ -125,7 +151,10 @@ fn outcome_of(ending: Ending) -> (Outcome, &'static str)
 
 /// The run of a program, and its text.
 fn run_of(alloc: Global, defs: &Defs, program: Value) -> Result<Ran, Outcome>
-    ensures leads { IfOk result (λ ran. Leads defs.now (one_cell (program ∷ [])) ran.fired ran.end.now) }
+    ensures alone { IfOk result (λ ran. AllByRecursion (λ (entry : FiredEntry). entry.by ≡ 0) ran.fired) }
+    ensures log { IfOk result (λ ran. IsLog defs.now (one_cell (program ∷ [])) ran.fired ran.end.now) }
+    ensures stuck { IfOk result (λ ran. ran.outcome ≡ OfFinal → AreFrontRules defs.now → IsStuck defs.now (plain ran.end.now)) }
+    ensures goes_on { IfOk result (λ ran. ran.outcome ≡ OfBudget → IsStuck defs.now (plain ran.end.now) → ⊥) }
     ensures within { IfOk result (λ ran. length ran.fired ≤ 100000) }
     ensures text { IfOk result (λ ran. IfSome (run_word ran.outcome) (λ word.
         ran.text.items ≡ text_of_run word defs.now ran.fired ran.end.now)) }
@@ -153,16 +182,21 @@ fn run_of(alloc: Global, defs: &Defs, program: Value) -> Result<Ran, Outcome>
 fn run_job<H: Shelf>(alloc: Global, shelf: &mut H, words: &[String]) -> Result<Ran, Outcome>
     ensures run { IfOk result (λ ran. IfSome (run_word ran.outcome) (λ word.
         IsRun (H.told shelf.old (word_at (map string_bytes words.now) 2)) (H.told shelf.old (word_at (map string_bytes words.now) 3))
-        word ran.fired (Some ran.end) ran.text.items)) }
+        ran.outcome word ran.fired (Some ran.end) ran.text.items)) }
     ensures ended { IfOk result (λ ran. run_word ran.outcome ≢ None) }
     ensures refused { IfErr result (λ refusal. run_word refusal ≡ None) }
     ensures words { IfErr result (λ refusal. (refusal ≡ WantOfWords) ↔ (IsJob (map string_bytes words.now) → ⊥)) }
     ensures job { IfOk result (λ _. IsJob (map string_bytes words.now)) }
     ensures definition_fault { IfErr result (λ refusal. refusal ≡ FaultOf TheDefinition →
         Rose (H.faults shelf.old (word_at (map string_bytes words.now) 2)) (H.faults shelf.new (word_at (map string_bytes words.now) 2))) }
+    ensures unbuilt { IfErr result (λ refusal. refusal ≡ NotOfSmallForm →
+        IfSome (H.told shelf.old (word_at (map string_bytes words.now) 2)) (λ definition. IsDefinition definition → ⊥)) }
     ensures program_fault { IfErr result (λ refusal. refusal ≡ FaultOf TheProgram →
+        IfSome (H.told shelf.old (word_at (map string_bytes words.now) 2)) IsDefinition ×
         Rose (H.faults shelf.old (word_at (map string_bytes words.now) 3)) (H.faults shelf.new (word_at (map string_bytes words.now) 3))) }
-    ensures used_up { IfOk result (λ ran. ran.outcome ≡ OfBudget → length ran.fired ≡ 100000) }
+    ensures no_reading { (cause : ReadRefusal) → IfErr result (λ refusal. refusal ≡ ProgramRefused cause → (cause ≡ NoReading 0) ×
+        IfSome (H.told shelf.old (word_at (map string_bytes words.now) 2)) (λ definition. IsDefinition definition ×
+        IfSome (H.told shelf.old (word_at (map string_bytes words.now) 3)) (λ program. IsProgram definition program → ⊥))) }
     ensures counts { IfOk result (λ ran. ran.counts ≡ caller_fired (length ran.fired)) }
 {
     let Some(job) = job_of(words) else {
@@ -243,23 +277,50 @@ pub fn krun_alone<H: Shelf, O: Sink>(
 ) -> Report
     ensures run { IfSome (run_word result.outcome) (λ word. (text : List ℕ) ×
         IsRun (H.told shelf.old (word_at (map string_bytes words.now) 2)) (H.told shelf.old (word_at (map string_bytes words.now) 3))
-        word result.fired result.end text ×
+        result.outcome word result.fired result.end text ×
         (result.status ≢ 6 → Took (O.taken out.old) (O.taken out.new) text) ×
         (result.status ≡ 6 → AppendsFront (O.taken out.old) (O.taken out.new) text)) }
     ensures refusal { run_word result.outcome ≡ None → result.status ≢ 6 →
         Took (O.taken out.old) (O.taken out.new) (text_of result.outcome) }
     ensures refusal_front { run_word result.outcome ≡ None → result.status ≡ 6 →
         AppendsFront (O.taken out.old) (O.taken out.new) (text_of result.outcome) }
-    ensures write_fault { result.status ≡ 6 → Rose (O.faults out.old) (O.faults out.new) }
+    ensures empty { run_word result.outcome ≡ None → (result.fired ≡ []) × (result.counts ≡ []) × (result.end ≡ None) }
+    ensures counts { run_word result.outcome ≢ None → result.counts ≡ caller_fired (length result.fired) }
+    ensures status { (result.status ≡ 6) ⊎ (result.status ≡ status_of result.outcome) }
+
+    // The cause of each refusal, in the order in which they are tried.
+    ensures usage { (result.outcome ≡ WantOfWords) ↔ (IsJob (map string_bytes words.now) → ⊥) }
     ensures definition_fault { result.outcome ≡ FaultOf TheDefinition →
         Rose (H.faults shelf.old (word_at (map string_bytes words.now) 2)) (H.faults shelf.new (word_at (map string_bytes words.now) 2)) }
+    ensures unbuilt { result.outcome ≡ NotOfSmallForm →
+        IfSome (H.told shelf.old (word_at (map string_bytes words.now) 2)) (λ definition. IsDefinition definition → ⊥) }
     ensures program_fault { result.outcome ≡ FaultOf TheProgram →
+        IfSome (H.told shelf.old (word_at (map string_bytes words.now) 2)) IsDefinition ×
         Rose (H.faults shelf.old (word_at (map string_bytes words.now) 3)) (H.faults shelf.new (word_at (map string_bytes words.now) 3)) }
-    ensures used_up { result.outcome ≡ OfBudget → length result.fired ≡ 100000 }
-    ensures counts { run_word result.outcome ≢ None → result.counts ≡ caller_fired (length result.fired) }
-    ensures empty { run_word result.outcome ≡ None → (result.fired ≡ []) × (result.counts ≡ []) × (result.end ≡ None) }
-    ensures usage { (result.outcome ≡ WantOfWords) ↔ (IsJob (map string_bytes words.now) → ⊥) }
-    ensures status { (result.status ≡ 6) ⊎ (result.status ≡ status_of result.outcome) }
+    ensures no_reading { (cause : ReadRefusal) → result.outcome ≡ ProgramRefused cause → (cause ≡ NoReading 0) ×
+        IfSome (H.told shelf.old (word_at (map string_bytes words.now) 2)) (λ definition. IsDefinition definition ×
+        IfSome (H.told shelf.old (word_at (map string_bytes words.now) 3)) (λ program. IsProgram definition program → ⊥)) }
+    ensures write_fault { result.status ≡ 6 → Rose (O.faults out.old) (O.faults out.new) }
+
+    // Where a file is told and no count rose, its refusal comes exactly where it has the cause, and else the run is whole;
+    // only memory may be wanting.
+    ensures unbuilt_where { IsJob (map string_bytes words.now) → IfSome (H.told shelf.old (word_at (map string_bytes words.now) 2)) (λ definition.
+        (IsDefinition definition → ⊥) →
+        (Rose (H.faults shelf.old (word_at (map string_bytes words.now) 2)) (H.faults shelf.new (word_at (map string_bytes words.now) 2)) → ⊥) →
+        (result.outcome ≡ NotOfSmallForm) ⊎ (result.outcome ≡ WantOfMemory)) }
+    ensures no_reading_where { IsJob (map string_bytes words.now) → IfSome (H.told shelf.old (word_at (map string_bytes words.now) 2)) (λ definition.
+        IsDefinition definition → IfSome (H.told shelf.old (word_at (map string_bytes words.now) 3)) (λ program.
+        (IsProgram definition program → ⊥) →
+        (Rose (H.faults shelf.old (word_at (map string_bytes words.now) 2)) (H.faults shelf.new (word_at (map string_bytes words.now) 2)) → ⊥) →
+        (Rose (H.faults shelf.old (word_at (map string_bytes words.now) 3)) (H.faults shelf.new (word_at (map string_bytes words.now) 3)) → ⊥) →
+        (result.outcome ≡ ProgramRefused (NoReading 0)) ⊎ (result.outcome ≡ WantOfMemory))) }
+    ensures complete { IsJob (map string_bytes words.now) → IfSome (H.told shelf.old (word_at (map string_bytes words.now) 2)) (λ definition.
+        IfSome (H.told shelf.old (word_at (map string_bytes words.now) 3)) (λ program.
+        IsProgram definition program →
+        (Rose (H.faults shelf.old (word_at (map string_bytes words.now) 2)) (H.faults shelf.new (word_at (map string_bytes words.now) 2)) → ⊥) →
+        (Rose (H.faults shelf.old (word_at (map string_bytes words.now) 3)) (H.faults shelf.new (word_at (map string_bytes words.now) 3)) → ⊥) →
+        (Rose (O.faults out.old) (O.faults out.new) → ⊥) →
+        (result.outcome ≡ WantOfMemory) ⊎ IsWholeRun (Some definition) (Some program) result.status result.outcome result.fired result.end (O.taken out.old) (O.taken out.new))) }
 {
     match run_job(alloc, shelf, words) {
         Ok(ran) => report_run(out, ran),

@@ -1,0 +1,123 @@
+-- What follows from the causes of the refusals.
+use Rattle.std.proofs.Common.{◌≡◌, ◌≢◌, ◌↔◌, ◌⊎◌, inl, inr, List, ℕ, Option, Some, None, IfSome, refl, ap}
+use Rattle.std.specs.Prelude.{IsSomeAnd}
+use Rattle.live_config.specs.declared.site.Fired.{Fired}
+use Rattle.live_config.specs.Live.{LiveState}
+use Rattle.krun.specs.declared.outcome.ReadRefusal.{ReadRefusal}
+use Rattle.krun.specs.declared.outcome.ReadRefusal.TheVariants.{NoReading}
+use Rattle.krun.specs.declared.outcome.Which.TheVariants.{Definition, Program as TheProgram}
+use Rattle.krun.specs.declared.outcome.Outcome.{Outcome}
+use Rattle.krun.specs.declared.outcome.Outcome.TheVariants.{Final, Budget, Usage, Unbuilt, Program, ReadFault, Memory}
+use Rattle.krun.specs.Outcome.{status_of, run_word}
+use Rattle.krun.specs.Headline.{IsRun, Took}
+use Rattle.krun.specs.Causes.{IsJob, IsDefinition, IsProgram, IsWholeRun}
+
+-- the causes of a refusal
+pub record Refused (words : List (List ℕ)) (definition program : Option (List ℕ)) (definition_rose program_rose : Type 0) (o : Outcome) : Type 0 where
+  pub refused : run_word o ≡ None
+  pub usage : (o ≡ Usage) ↔ (IsJob words → ⊥)
+  pub definition_fault : o ≡ ReadFault Definition → definition_rose
+  pub unbuilt : o ≡ Unbuilt → IfSome definition (λ bytes. IsDefinition bytes → ⊥)
+  pub program_fault : o ≡ ReadFault TheProgram → IfSome definition IsDefinition × program_rose
+  pub no_reading : (cause : ReadRefusal) → o ≡ Program cause → (cause ≡ NoReading 0) × IfSome definition (λ bytes. IsDefinition bytes × IfSome program (λ text. IsProgram bytes text → ⊥))
+
+module _ (words : List (List ℕ)) (bytes : List ℕ) (definition_rose program_rose : Type 0) where
+  -- a file that is no definition is refused as such
+  pub unbuilt_alone : (program : Option (List ℕ)) (o : Outcome) → Refused words (Some bytes) program definition_rose program_rose o → IsJob words
+      → (IsDefinition bytes → ⊥) → (definition_rose → ⊥) → (o ≡ Unbuilt) ⊎ (o ≡ Memory)
+  unbuilt_alone program Usage h job none rose = absurd (h.usage.0 refl job)
+  unbuilt_alone program Unbuilt h job none rose = inl refl
+  unbuilt_alone program (Program cause) h job none rose = absurd (none (h.no_reading cause refl).1.0)
+  unbuilt_alone program (ReadFault Definition) h job none rose = absurd (rose (h.definition_fault refl))
+  unbuilt_alone program (ReadFault TheProgram) h job none rose = absurd (none (h.program_fault refl).0)
+  unbuilt_alone program Memory h job none rose = inr refl
+  unbuilt_alone program Final h job none rose = cc
+  unbuilt_alone program Budget h job none rose = cc
+
+  -- a file that is no program of the definition is refused as such
+  pub no_reading_alone : (text : List ℕ) (o : Outcome) → Refused words (Some bytes) (Some text) definition_rose program_rose o → IsJob words
+      → IsDefinition bytes → (definition_rose → ⊥) → (program_rose → ⊥) → (o ≡ Program (NoReading 0)) ⊎ (o ≡ Memory)
+  no_reading_alone text Usage h job read rose program_rose = absurd (h.usage.0 refl job)
+  no_reading_alone text Unbuilt h job read rose program_rose = absurd (h.unbuilt refl read)
+  no_reading_alone text (Program cause) h job read rose program_rose = inl (ap Program (h.no_reading cause refl).0)
+  no_reading_alone text (ReadFault Definition) h job read rose program_rose = absurd (rose (h.definition_fault refl))
+  no_reading_alone text (ReadFault TheProgram) h job read rose program_rose = absurd (program_rose (h.program_fault refl).1)
+  no_reading_alone text Memory h job read rose program_rose = inr refl
+  no_reading_alone text Final h job read rose program_rose = cc
+  no_reading_alone text Budget h job read rose program_rose = cc
+
+  -- where both files are read, memory alone may be wanting
+  pub memory_alone : (text : List ℕ) (o : Outcome) → Refused words (Some bytes) (Some text) definition_rose program_rose o → IsJob words
+      → IsProgram bytes text → (definition_rose → ⊥) → (program_rose → ⊥) → o ≡ Memory
+  memory_alone text o h job is rose program_rose =
+      elim (no_reading_alone text o h job (is.0, is.2) rose program_rose) [
+        | inl refused ↦ absurd ((h.no_reading (NoReading 0) refused).1.1 is)
+        | inr memory ↦ memory
+      ]
+
+-- a run read a definition and a program of it
+pub run_read : (definition program : Option (List ℕ)) (o outcome : Outcome) (fired : List Fired) (end : Option LiveState) (text : List ℕ) → (run_word o ≡ None → ⊥)
+    → IfSome (run_word o) (λ word. IsRun definition program outcome word fired end text) → IfSome definition (λ bytes. IsDefinition bytes × IfSome program (λ source. IsProgram bytes source))
+run_read definition program o outcome fired end text ended run = by_word (run_word o) ended run
+  where
+    of_run : (d p : Option (List ℕ)) (word : List ℕ) → IsRun d p outcome word fired end text → IfSome d (λ bytes. IsDefinition bytes × IfSome p (λ source. IsProgram bytes source))
+    of_run None p word run = tt
+    of_run (Some bytes) None word run = ((run.language, run.definition_read), tt)
+    of_run (Some bytes) (Some source) word run = ((run.language, run.definition_read), (run.language, run.value, run.definition_read, run.program_read))
+
+    by_word : (w : Option (List ℕ)) → (w ≡ None → ⊥) → IfSome w (λ word. IsRun definition program outcome word fired end text) → IfSome definition (λ bytes. IsDefinition bytes × IfSome program (λ source. IsProgram bytes source))
+    by_word None some run = absurd (some refl)
+    by_word (Some word) some run = of_run definition program word run
+
+-- ---- the same where the files may be told
+
+module _ (words : List (List ℕ)) (definition_rose program_rose : Type 0) (o : Outcome) where
+  pub refused_unbuilt : (definition program : Option (List ℕ)) → Refused words definition program definition_rose program_rose o → IsJob words
+      → IfSome definition (λ bytes. (IsDefinition bytes → ⊥) → (definition_rose → ⊥) → (o ≡ Unbuilt) ⊎ (o ≡ Memory))
+  refused_unbuilt None program h job = tt
+  refused_unbuilt (Some bytes) program h job = unbuilt_alone words bytes definition_rose program_rose program o h job
+
+  pub refused_no_reading : (definition program : Option (List ℕ)) → Refused words definition program definition_rose program_rose o → IsJob words
+      → IfSome definition (λ bytes. IsDefinition bytes → IfSome program (λ text. (IsProgram bytes text → ⊥) → (definition_rose → ⊥) → (program_rose → ⊥) → (o ≡ Program (NoReading 0)) ⊎ (o ≡ Memory)))
+  refused_no_reading None program h job = tt
+  refused_no_reading (Some bytes) None h job = λ read. tt
+  refused_no_reading (Some bytes) (Some text) h job = λ read none. no_reading_alone words bytes definition_rose program_rose text o h job read
+
+  pub refused_complete : (definition program : Option (List ℕ)) (C : Type 0) (W : List ℕ → List ℕ → Type 0) → Refused words definition program definition_rose program_rose o → IsJob words
+      → IfSome definition (λ bytes. IfSome program (λ text. IsProgram bytes text → (definition_rose → ⊥) → (program_rose → ⊥) → C → (o ≡ Memory) ⊎ W bytes text))
+  refused_complete None program C W h job = tt
+  refused_complete (Some bytes) None C W h job = tt
+  refused_complete (Some bytes) (Some text) C W h job = λ is no_fault no_program_fault _. inl (memory_alone words bytes definition_rose program_rose text o h job is no_fault no_program_fault)
+
+-- a run read what is told
+abbrev pub HasRead : Option (List ℕ) → Option (List ℕ) → Type 0
+HasRead definition program = IfSome definition (λ bytes. IsDefinition bytes × IfSome program (λ text. IsProgram bytes text))
+
+pub ran_unbuilt : (definition program : Option (List ℕ)) (A B : Type 0) → HasRead definition program → IfSome definition (λ bytes. (IsDefinition bytes → ⊥) → A → B)
+ran_unbuilt None program A B read = tt
+ran_unbuilt (Some bytes) program A B read = λ none _. absurd (none read.0)
+
+pub ran_no_reading : (definition program : Option (List ℕ)) (A B C : Type 0) → HasRead definition program
+    → IfSome definition (λ bytes. IsDefinition bytes → IfSome program (λ text. (IsProgram bytes text → ⊥) → A → B → C))
+ran_no_reading None program A B C read = tt
+ran_no_reading (Some bytes) None A B C read = λ _. tt
+ran_no_reading (Some bytes) (Some text) A B C read = λ _ none _ _. absurd (none read.1)
+
+-- a run whose text was written is whole
+module _ (status : ℕ) (o : Outcome) (fired : List Fired) (end : Option LiveState) (text : List ℕ) (before after : Option (List ℕ)) (rose : Type 0)
+    (status_is : (status ≡ 6) ⊎ (status ≡ status_of o)) (took : status ≢ 6 → Took before after text) (fault : status ≡ 6 → rose) where
+  whole : (definition program : Option (List ℕ)) → (run_word o ≡ None → ⊥) → IfSome (run_word o) (λ word. IsRun definition program o word fired end text) → (rose → ⊥)
+      → IsWholeRun definition program status o fired end before after
+  whole definition program ended run no_fault =
+      (elim status_is [ inl six ↦ absurd (no_fault (fault six)) | inr same ↦ same ], by_word (run_word o) ended run)
+    where
+      by_word : (w : Option (List ℕ)) → (w ≡ None → ⊥) → IfSome w (λ word. IsRun definition program o word fired end text)
+          → IsSomeAnd w (λ word. (t : List ℕ) × IsRun definition program o word fired end t × Took before after t)
+      by_word None some run = absurd (some refl)
+      by_word (Some word) some run = (text, run, took (λ six. no_fault (fault six)))
+
+  pub ran_whole : (definition program : Option (List ℕ)) (A B C : Type 0) → (run_word o ≡ None → ⊥) → IfSome (run_word o) (λ word. IsRun definition program o word fired end text)
+      → IfSome definition (λ bytes. IfSome program (λ source. IsProgram bytes source → A → B → (rose → ⊥) → C ⊎ IsWholeRun (Some bytes) (Some source) status o fired end before after))
+  ran_whole None program A B C ended run = tt
+  ran_whole (Some bytes) None A B C ended run = tt
+  ran_whole (Some bytes) (Some source) A B C ended run = λ _ _ _ no_fault. inr (whole (Some bytes) (Some source) ended run no_fault)
