@@ -1,0 +1,10 @@
+mod Examples
+pub mod Chars
+pub mod Decoding
+pub mod Heads
+pub mod Tails
+pub mod Strings
+pub mod Stopping
+pub mod Taking
+pub mod Steps
+pub mod Faults

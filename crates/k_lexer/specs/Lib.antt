@@ -1,0 +1,5 @@
+pub mod Characters
+pub mod Tokens
+pub mod Lexing
+pub mod Laws
+pub mod Fronts

@@ -1,0 +1,18 @@
+//! The base tokens of the text of a definition or of a program: words, integers, strings and marks, with blanks and
+//! comments around them.
+//!
+//! Blanks are space, tab, line feed and carriage return. A comment goes from `//` up to a line feed or the end, or from
+//! `/*` to the next `*/`. At each place the longest token is taken, and none begins where a comment begins.
+#![tactic(auto)]
+
+mod fault;
+mod front;
+pub mod laws;
+mod lexing;
+#[cfg(test)]
+mod tests;
+mod token;
+
+pub use fault::LexFault;
+pub use lexing::{find_fault, tokens};
+pub use token::{Kind, Token};
