@@ -8,3 +8,4 @@ pub mod Stopping
 pub mod Taking
 pub mod Steps
 pub mod Faults
+pub mod Words

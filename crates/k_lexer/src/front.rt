@@ -103,7 +103,7 @@ fn continues_token(kind: Kind, next: char) -> bool
 }
 
 /// How many bytes at the front go on with a token that is no string.
-fn run_size(kind: Kind, rest: &[u8]) -> usize
+pub(crate) fn run_size(kind: Kind, rest: &[u8]) -> usize
     requires { kind ≢ Kind.Str }
     ensures { IsTail kind rest.now result }
 {

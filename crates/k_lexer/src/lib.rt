@@ -12,7 +12,9 @@ mod lexing;
 #[cfg(test)]
 mod tests;
 mod token;
+mod whole;
 
 pub use fault::LexFault;
 pub use lexing::{find_fault, tokens};
 pub use token::{Kind, Token};
+pub use whole::{is_mark, is_word};

@@ -1,4 +1,4 @@
-use crate::{Kind, LexFault, Token, find_fault, tokens};
+use crate::{Kind, LexFault, Token, find_fault, is_mark, is_word, tokens};
 use std::alloc::Global;
 use std::test::Fail;
 
@@ -103,5 +103,24 @@ fn says_where_a_token_stands(rt: HostRuntime) -> Result<(), Fail> {
     assert_eq!(rt; found.first().copied(), Some(token));
     assert_eq!(rt; found.len(), 1);
     assert!(rt; find_fault(b" 12").is_none());
+    Ok(())
+}
+
+#[test]
+fn tells_words_and_marks(rt: HostRuntime) -> Result<(), Fail> {
+    let words: [(&[u8], bool); 7] = [
+        (b"a", true),
+        (b"_1b", true),
+        (b"", false),
+        (b"1a", false),
+        (b"a b", false),
+        (b"a-", false),
+        (b"a\xff", false),
+    ];
+    for (text, want) in words {
+        assert_eq!(rt; is_word(text), want);
+    }
+    assert!(rt; is_mark(b'-') && is_mark(b'~'));
+    assert!(rt; !(is_mark(b'_') || is_mark(b'"') || is_mark(b' ') || is_mark(0x7f)));
     Ok(())
 }
