@@ -1,0 +1,11 @@
+pub mod Lexemes
+pub mod Written
+pub mod Allowed
+pub mod Meaning
+pub mod Reading
+pub mod Sources
+pub mod Heads
+pub mod Chains
+pub mod Attributes
+pub mod Items
+pub mod Next
