@@ -1,0 +1,5 @@
+pub mod Imports
+pub mod Order
+pub mod Laws
+pub mod Walking
+pub mod Reaching
