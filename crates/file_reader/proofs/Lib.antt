@@ -1,0 +1,14 @@
+pub mod Heads
+pub mod Naming
+pub mod Passing
+pub mod Sentencing
+pub mod Having
+pub mod Standing
+pub mod Declaring
+pub mod Embodied
+pub mod Gathering
+pub mod Progressing
+pub mod Completing
+pub mod Heading
+pub mod Deciding
+pub mod Seeing
