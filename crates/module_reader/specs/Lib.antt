@@ -1,0 +1,4 @@
+pub mod Modules
+pub mod Faults
+pub mod Joining
+pub mod Laws
