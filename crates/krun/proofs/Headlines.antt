@@ -12,11 +12,12 @@ use Rattle.small_form.specs.Small.{IsSmall, IsSmallText, unplaced, language_of}
 use Rattle.small_form.specs.Program.{IsTermText}
 use Rattle.front_run.specs.Front.{one_cell, AreFrontRules}
 use Rattle.krun.specs.declared.outcome.Outcome.{Outcome}
-use Rattle.krun.specs.declared.outcome.Outcome.TheVariants.{Final, Budget, Usage, Unbuilt, Program, ReadFault, Memory}
+use Rattle.krun.specs.declared.outcome.Outcome.TheVariants.{Final, Budget, Usage, Definition, Unbuilt, Program, ReadFault, Memory}
 use Rattle.krun.specs.declared.outcome.ReadRefusal.{ReadRefusal}
 use Rattle.krun.specs.declared.outcome.ReadRefusal.TheVariants.{NoReading}
 use Rattle.krun.specs.declared.top.Ran.{Ran}
 use Rattle.krun.specs.Outcome.{run_word}
+use Rattle.krun.specs.Refusals.{HasNoRefusal}
 use Rattle.krun.specs.Causes.{IsDefinition, IsProgram}
 use Rattle.krun.specs.Headline.{IsRun, budget}
 use Rattle.krun.specs.Headline.{run_text as text_of_run}
@@ -32,6 +33,7 @@ other_is_final : (o : Outcome) (word : List ℕ) → run_word o ≡ Some word �
 other_is_final Final word is not = refl
 other_is_final Budget word is not = absurd (not refl)
 other_is_final Usage word is not = cc
+other_is_final (Definition _) word is not = cc
 other_is_final Unbuilt word is not = cc
 other_is_final (Program _) word is not = cc
 other_is_final (ReadFault _) word is not = cc
@@ -41,6 +43,7 @@ other_is_budget : (o : Outcome) (word : List ℕ) → run_word o ≡ Some word �
 other_is_budget Final word is not = absurd (not refl)
 other_is_budget Budget word is not = refl
 other_is_budget Usage word is not = cc
+other_is_budget (Definition _) word is not = cc
 other_is_budget Unbuilt word is not = cc
 other_is_budget (Program _) word is not = cc
 other_is_budget (ReadFault _) word is not = cc
@@ -48,6 +51,7 @@ other_is_budget Memory word is not = cc
 
 -- a run that ended is the run that its text says
 pub is_run : (definition program : Option (List ℕ)) (language : Small) (value : Value) (result : Result Ran Outcome)
+    → IfSome definition HasNoRefusal
     → IfSome definition (λ bytes. IsSmallText bytes language)
     → IfSome program (λ bytes. IsTermText language.productions bytes value)
     → IsSmall language
@@ -59,8 +63,8 @@ pub is_run : (definition program : Option (List ℕ)) (language : Small) (value 
     → IfOk result (λ ran. ran.outcome ≡ Budget → length ran.fired ≡ budget)
     → IfOk result (λ ran. IfSome (run_word ran.outcome) (λ word. ran.text.items ≡ text_of_run word (language_of language) ran.fired ran.end.now))
     → IfOk result (λ ran. IfSome (run_word ran.outcome) (λ word. IsRun definition program ran.outcome word ran.fired (Some ran.end) ran.text.items))
-is_run definition program language value (Err e) read_d read_p small log within alone stuck goes_on used_up text = tt
-is_run definition program language value (Ok ran) read_d read_p small log within alone stuck goes_on used_up text =
+is_run definition program language value (Err e) accepted read_d read_p small log within alone stuck goes_on used_up text = tt
+is_run definition program language value (Ok ran) accepted read_d read_p small log within alone stuck goes_on used_up text =
     if_some_then (run_word ran.outcome) _ _
     (λ word is text_is. record {
       language = language;
@@ -68,6 +72,7 @@ is_run definition program language value (Ok ran) read_d read_p small log within
       last = ran.end;
       is_last = refl;
       definition_read = read_d;
+      accepted = accepted;
       program_read = read_p;
       log = log;
       within = within;
@@ -81,30 +86,34 @@ is_run definition program language value (Ok ran) read_d read_p small log within
     })
     text
 
--- a definition that is read is one
-pub is_definition : (definition : Option (List ℕ)) (small : Small) → IfSome definition (λ bytes. IsSmallText bytes small) → IfSome definition IsDefinition
-is_definition None small read = tt
-is_definition (Some bytes) small read = (small, read)
+-- a definition that is accepted and read is one
+pub is_definition : (definition : Option (List ℕ)) (small : Small) → IfSome definition HasNoRefusal → IfSome definition (λ bytes. IsSmallText bytes small) → IfSome definition IsDefinition
+is_definition None small accepted read = tt
+is_definition (Some bytes) small accepted read = record { accepted = accepted; small = (small, read) }
 
 -- where no value is read under the definition that is read, there is none under any that the same bytes spell
 pub no_program : (definition program : Option (List ℕ)) (small : Small)
+    → IfSome definition HasNoRefusal
     → IfSome definition (λ bytes. IsSmallText bytes small)
     → IfSome definition (λ bytes. (d : Small) → IsSmallText bytes d → unplaced small ≡ unplaced d)
     → IfSome program (λ bytes. (v : Value) → IsTermText small.productions bytes v → ⊥)
     → IfSome definition (λ bytes. IsDefinition bytes × IfSome program (λ text. IsProgram bytes text → ⊥))
-no_program None program small read only none = tt
-no_program (Some bytes) None small read only none = ((small, read), tt)
-no_program (Some bytes) (Some text) small read only none =
-    ((small, read), λ (d, v, spelled, term). none v (subst (λ ps. IsTermText ps text v) (sym (ap (λ (e : Small). e.productions) (only d spelled))) term))
+no_program None program small accepted read only none = tt
+no_program (Some bytes) None small accepted read only none = (record { accepted = accepted; small = (small, read) }, tt)
+no_program (Some bytes) (Some text) small accepted read only none = (
+  record { accepted = accepted; small = (small, read) },
+  λ is. none is.read.1 (subst (λ ps. IsTermText ps text is.read.1) (sym (ap (λ (e : Small). e.productions) (only is.read.0 is.read.2))) is.read.3),
+)
 
 -- a refused program has no reading under its definition
 pub refused_program : (definition program : Option (List ℕ)) (small : Small) (cause : ReadRefusal) (refusal : Outcome)
+    → IfSome definition HasNoRefusal
     → IfSome definition (λ bytes. IsSmallText bytes small)
     → IfSome definition (λ bytes. (d : Small) → IsSmallText bytes d → unplaced small ≡ unplaced d)
     → (refusal ≡ Program cause → (cause ≡ NoReading 0) × IfSome program (λ bytes. (v : Value) → IsTermText small.productions bytes v → ⊥))
     → refusal ≡ Program cause → (cause ≡ NoReading 0) × IfSome definition (λ bytes. IsDefinition bytes × IfSome program (λ text. IsProgram bytes text → ⊥))
-refused_program definition program small cause refusal read only none is =
-    let here = none is in (here.0, no_program definition program small read only here.1)
+refused_program definition program small cause refusal accepted read only none is =
+    let here = none is in (here.0, no_program definition program small accepted read only here.1)
 
 -- what is said of a refusal that is handed on
 pub handed_on : (result : Result Ran Outcome) (refusal : Outcome) (P : Outcome → Type 0) → IsErrAnd result (λ e. e ≡ refusal) → P refusal → IfErr result P

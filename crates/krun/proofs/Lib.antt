@@ -1,4 +1,3 @@
 mod Headlines
 pub mod Fronts
-mod Spelled
 mod Causes

@@ -8,6 +8,8 @@ use Rattle.live_config.specs.declared.site.Fired.{Fired}
 use Rattle.live_config.specs.Live.{LiveState}
 use Rattle.krun.specs.declared.outcome.Outcome.{Outcome}
 use Rattle.krun.specs.Outcome.{status_of, run_word}
+use Rattle.krun.specs.declared.outcome.Outcome.TheVariants.{Definition, Unbuilt, Memory}
+use Rattle.krun.specs.Refusals.{HasNoRefusal, IsOnlyRefusal}
 use Rattle.krun.specs.Headline.{word_at, IsRun, Took}
 
 -- the words are a job: the program's name, `run`, and the names of two files
@@ -15,13 +17,31 @@ pub record IsJob (words : List (List ℕ)) : Type 0 where
   pub four : length words ≡ 4
   pub mode : word_at words 1 ≡ codes "run"
 
--- the bytes are a definition
-abbrev pub IsDefinition : List ℕ → Type 0
-IsDefinition bytes = (d : Small) × IsSmallText bytes d
+-- the bytes are of the small form
+abbrev pub IsOfSmallForm : List ℕ → Type 0
+IsOfSmallForm bytes = (d : Small) × IsSmallText bytes d
+
+-- the bytes are a definition: nothing refuses them, and they are of the small form
+pub record IsDefinition (bytes : List ℕ) : Type 0 where
+  pub accepted : HasNoRefusal bytes
+  pub small : IsOfSmallForm bytes
+
+-- nothing refuses the bytes, and they are not of the small form
+pub record IsUnbuilt (bytes : List ℕ) : Type 0 where
+  pub accepted : HasNoRefusal bytes
+  pub other_form : IsOfSmallForm bytes → ⊥
+
+-- why the bytes of a definition are read and no definition is given
+abbrev pub IsCauseOf : List ℕ → Outcome → Type 0
+IsCauseOf bytes (Definition fault) = IsOnlyRefusal bytes fault
+IsCauseOf bytes Unbuilt = IsUnbuilt bytes
+IsCauseOf bytes Memory = Unit {0}
+IsCauseOf bytes _ = ⊥
 
 -- the bytes of a definition and of a program are a definition and a program of it
-abbrev pub IsProgram : List ℕ → List ℕ → Type 0
-IsProgram definition program = (d : Small) × (v : Value) × IsSmallText definition d × IsTermText d.productions program v
+pub record IsProgram (definition program : List ℕ) : Type 0 where
+  pub accepted : HasNoRefusal definition
+  pub read : (d : Small) × (v : Value) × IsSmallText definition d × IsTermText d.productions program v
 
 -- a run that ended, with its own status, and all of whose text the sink took
 abbrev pub IsWholeRun : Option (List ℕ) → Option (List ℕ) → ℕ → Outcome → List Fired → Option LiveState → Option (List ℕ) → Option (List ℕ) → Type 0

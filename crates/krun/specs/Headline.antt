@@ -17,7 +17,8 @@ use Rattle.printed_form.specs.Words.{Words}
 use Rattle.printed_form.specs.Configurations.{configuration_text, names_of}
 use Rattle.krun.specs.declared.outcome.Outcome.{Outcome}
 use Rattle.krun.specs.declared.outcome.Outcome.TheVariants.{Final, Budget}
-use Rattle.krun.specs.Outcome.{line_end}
+use Rattle.krun.specs.Lines.{line_end}
+use Rattle.krun.specs.Refusals.{HasNoRefusal}
 
 -- how many instances may fire
 abbrev pub budget : ℕ
@@ -40,7 +41,7 @@ abbrev pub run_text : List ℕ → Language → List Fired → Configuration →
 run_text word d fired end =
     word ++ (32 ∷ decimal (length fired)) ++ line_end ++ configuration_text (words_of_language d) (names_of d.cells) (plain end)
 
--- The definition and the program are what the files are, where these are told. The entries fire, one after the other, from
+-- The definition and the program are what the files are, where these are told, and nothing refuses the definition. The entries fire, one after the other, from
 -- the initial configuration to the last one, and are an ordinary rewriting between the two. The outcome is Final exactly
 -- where no rule matches the last configuration, and Budget exactly where the budget is used up and a rule still matches.
 -- Worker 0, the caller, fired each entry.
@@ -51,6 +52,7 @@ pub record IsRun (definition program : Option (List ℕ)) (outcome : Outcome) (w
   pub last : LiveState
   pub is_last : end ≡ Some last
   pub definition_read : IfSome definition (λ bytes. IsSmallText bytes language)
+  pub accepted : IfSome definition HasNoRefusal
   pub program_read : IfSome program (λ bytes. IsTermText language.productions bytes value)
   pub log : IsLog (language_of language) (one_cell (value ∷ [])) fired last.now
   pub within : length fired ≤ budget

@@ -1,3 +1,5 @@
+pub mod Lines
 pub mod Outcome
+pub mod Refusals
 pub mod Headline
 pub mod Causes

@@ -1,30 +1,55 @@
--- The status and the fixed text of each outcome.
-use Rattle.std.specs.Prelude.{ℕ, List, [], ◌∷◌, ◌++◌, Option, Some, None, codes}
+-- The status and the text of each outcome.
+use Rattle.std.specs.Prelude.{◌≡◌, ◌⊎◌, ℕ, Bool, true, false, List, [], ◌++◌, Option, Some, None, codes}
+use Rattle.k_lexer.specs.declared.fault.LexFault.TheVariants.{Memory as LexMemory}
+use Rattle.module_reader.specs.declared.fault.ModuleFault.TheVariants.{Memory as ModuleMemory}
+use Rattle.krun.specs.declared.def_fault.DefFault.{DefFault}
+use Rattle.krun.specs.declared.def_fault.DefFault.TheVariants.{Lex, Module, Memory as DefMemory}
 use Rattle.krun.specs.declared.outcome.Outcome.{Outcome}
-use Rattle.krun.specs.declared.outcome.Outcome.TheVariants.{Final, Budget, Usage, Unbuilt, Program, ReadFault, Memory}
+use Rattle.krun.specs.declared.outcome.Outcome.TheVariants.{Final, Budget, Usage, Definition, Unbuilt, Program, ReadFault, Memory}
+use Rattle.krun.specs.Lines.{line_end, fault_line}
 
 abbrev pub status_of : Outcome → ℕ
 status_of Final = 0
 status_of Budget = 1
 status_of Usage = 2
+status_of (Definition _) = 3
 status_of Unbuilt = 3
 status_of (Program _) = 4
 status_of (ReadFault _) = 5
 status_of Memory = 7
 
--- a line feed
-abbrev pub line_end : List ℕ
-line_end = 10 ∷ []
-
 -- what a refusal writes; a run has a text of its own
 abbrev pub text_of : Outcome → List ℕ
 text_of Usage = codes "usage: krun MODE DEF [PGM] [TRACE] [--depth N] [--workers N] [--in LIST] [--trace | --waves | --cover]" ++ line_end
+text_of (Definition fault) = fault_line fault
 text_of Unbuilt = codes "definition 29 Unbuilt" ++ line_end
 text_of (Program _) = codes "program 13 NoReading at=0" ++ line_end
 text_of _ = []
+
+-- the outcome refuses no definition by a fault of it, so that its text is always the same
+abbrev pub HasFixedText : Outcome → Type 0
+HasFixedText (Definition _) = ⊥
+HasFixedText _ = Unit {0}
 
 -- the word that begins the text of a run
 abbrev pub run_word : Outcome → Option (List ℕ)
 run_word Final = Some (codes "Final")
 run_word Budget = Some (codes "Budget")
 run_word _ = None
+
+-- memory was wanting, and nothing is wrong with the definition
+abbrev pub wants_memory : DefFault → Bool
+wants_memory DefMemory = true
+wants_memory (Lex LexMemory) = true
+wants_memory (Module ModuleMemory) = true
+wants_memory _ = false
+
+-- the outcome of a call whose definition has this fault
+abbrev pub outcome_of : DefFault → Outcome
+outcome_of DefMemory = Memory
+outcome_of fault = Definition fault
+
+-- what is reported of a refusal: the refusal, or want of memory where its line must be made
+abbrev pub IsReported : Outcome → Outcome → Type 0
+IsReported (Definition fault) reported = (reported ≡ Definition fault) ⊎ (reported ≡ Memory)
+IsReported refusal reported = reported ≡ refusal

@@ -2,6 +2,9 @@
 //! many fired and the configuration reached.
 #![tactic(auto)]
 
+mod def_fault;
+mod definition;
+mod file;
 mod job;
 mod outcome;
 mod outside;

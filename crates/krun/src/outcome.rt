@@ -1,7 +1,8 @@
 ghost use Rattle.std.specs.Prelude.{◌≡◌};
-ghost use Rattle.krun.specs.Outcome.{status_of, text_of};
+ghost use Rattle.krun.specs.Outcome.{status_of, text_of, outcome_of, HasFixedText};
 ghost use Rattle.krun.specs.declared.outcome.Outcome.TheVariants.{Memory as WantOfMemory};
 
+use crate::def_fault::DefFault;
 use k_terms::Memory;
 
 /// A file that is read.
@@ -18,7 +19,7 @@ pub enum ReadRefusal {
 }
 
 /// How a call of the program ended.
-#[derive(Clone, Copy, Debug, PartialEq, Eq)]
+#[derive(Debug, Drop, PartialEq, Eq)]
 pub enum Outcome {
     /// No rule matches the configuration.
     Final,
@@ -26,6 +27,8 @@ pub enum Outcome {
     Budget,
     /// The words are no job.
     Usage,
+    /// The definition was refused. The fault is never want of memory, which is an outcome of its own.
+    Definition(DefFault),
     /// The definition is none that can be run yet.
     Unbuilt,
     /// The program was refused.
@@ -44,6 +47,17 @@ impl From<Memory> for Outcome {
     }
 }
 
+impl From<DefFault> for Outcome {
+    ghost from_gives = { λ fault e. e ≡ outcome_of fault };
+
+    fn from(fault: DefFault) -> Outcome {
+        match fault {
+            DefFault::Memory => Outcome::Memory,
+            fault => Outcome::Definition(fault),
+        }
+    }
+}
+
 /// The status of the program where memory was wanting.
 pub const MEMORY: u8 = 7;
 
@@ -52,13 +66,14 @@ pub const WRITE_FAULT: u8 = 6;
 
 impl Outcome {
     /// The exit status of the program.
-    pub fn status(self) -> u8
-        ensures { result ≡ status_of self }
+    pub fn status(&self) -> u8
+        ensures { result ≡ status_of self.now }
     {
         match self {
             Outcome::Final => 0,
             Outcome::Budget => 1,
             Outcome::Usage => 2,
+            Outcome::Definition(_) => 3,
             Outcome::Unbuilt => 3,
             Outcome::Program(_) => 4,
             Outcome::ReadFault(_) => 5,
@@ -66,9 +81,11 @@ impl Outcome {
         }
     }
 
-    /// The line that a refusal writes. A run writes its own text, and a fault of reading and want of memory write none.
-    pub fn line(self) -> &'static [u8]
-        ensures { result.now ≡ text_of self }
+    /// The line that a refusal writes which is no fault of a definition. A run writes its own text, and a fault of reading
+    /// and want of memory write none.
+    pub fn fixed_line(&self) -> &'static [u8]
+        requires { HasFixedText self.now }
+        ensures { result.now ≡ text_of self.now }
     {
         match self {
             Outcome::Usage => {

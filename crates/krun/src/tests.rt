@@ -24,22 +24,19 @@ const TWO_SORTS: &str = "module IMP
 endmodule
 ";
 
-fn file(alloc: Global, name: &str, text: &str) -> Result<(String, Vec<u8>), AllocError> {
-    Ok((
-        name.to_string(alloc)?,
-        Vec::from_slice(alloc, text.as_bytes())?,
-    ))
+fn file(alloc: Global, name: &str, bytes: &[u8]) -> Result<(String, Vec<u8>), AllocError> {
+    Ok((name.to_string(alloc)?, Vec::from_slice(alloc, bytes)?))
 }
 
 /// The two files of a job.
 fn files(
     alloc: Global,
-    definition: &str,
+    definition: &[u8],
     program: &str,
 ) -> Result<Vec<(String, Vec<u8>)>, AllocError> {
     let mut files = Vec::new(alloc);
     files.push(file(alloc, "d.k", definition)?)?;
-    files.push(file(alloc, "p", program)?)?;
+    files.push(file(alloc, "p", program.as_bytes())?)?;
     Ok(files)
 }
 
@@ -56,7 +53,7 @@ fn words(alloc: Global, line: &str) -> Result<Vec<String>, AllocError> {
 fn report_of(
     alloc: Global,
     line: &str,
-    definition: &str,
+    definition: &[u8],
     program: &str,
     failing: Vec<u64>,
 ) -> Result<(Report, MemSink), AllocError> {
@@ -70,7 +67,7 @@ fn report_of(
 #[test]
 fn runs_and_refuses(rt: HostRuntime) -> Result<(), Fail> {
     let no_reading = Outcome::Program(ReadRefusal::NoReading { at: 0 });
-    let jobs: [(&str, &str, &str, Outcome, u8, usize); 6] = [
+    let jobs: [(&str, &str, &str, Outcome, u8, usize); 5] = [
         (
             TINY,
             "plus(s(z()),z())",
@@ -104,20 +101,12 @@ fn runs_and_refuses(rt: HostRuntime) -> Result<(), Fail> {
             3,
             0,
         ),
-        (
-            TWO_SORTS,
-            "int x; x = 1 + 2;",
-            "definition 29 Unbuilt\n",
-            Outcome::Unbuilt,
-            3,
-            0,
-        ),
     ];
     for (definition, program, text, outcome, status, fired) in jobs {
         let (report, sink) = report_of(
             rt.alloc(),
             "krun run d.k p",
-            definition,
+            definition.as_bytes(),
             program,
             Vec::new(rt.alloc()),
         )?;
@@ -130,11 +119,75 @@ fn runs_and_refuses(rt: HostRuntime) -> Result<(), Fail> {
 }
 
 #[test]
+fn refuses_definitions(rt: HostRuntime) -> Result<(), Fail> {
+    let refusals: [(&[u8], &str); 9] = [
+        (b"\xff", "definition 1 BadByte at=0\n"),
+        (b"\"a", "definition 2 OpenString at=0\n"),
+        (b"/* x", "definition 3 OpenComment at=0\n"),
+        (
+            b"module A syntax Int ::= \"x\" endmodule",
+            "definition 4 Expected at=16\n",
+        ),
+        (
+            b"module A imports B endmodule",
+            "definition 5 NoModule name=B\n",
+        ),
+        (
+            b"module A imports A endmodule",
+            "definition 6 ImportCycle name=A\n",
+        ),
+        (
+            b"module A endmodule module A endmodule",
+            "definition 7 TwoModules name=A\n",
+        ),
+        (
+            b"module A syntax A ::= Int endmodule",
+            "definition 29 Unbuilt\n",
+        ),
+        (TWO_SORTS.as_bytes(), "definition 29 Unbuilt\n"),
+    ];
+    for (definition, text) in refusals {
+        let (report, sink) = report_of(
+            rt.alloc(),
+            "krun run d.k p",
+            definition,
+            "z()",
+            Vec::new(rt.alloc()),
+        )?;
+        assert_eq!(rt; sink.bytes(), text.as_bytes(), "{text}");
+        assert_eq!(rt; report.status, 3, "{text}");
+        assert!(rt; report.fired.is_empty(), "{text}");
+    }
+    Ok(())
+}
+
+#[test]
+fn refuses_definitions_that_are_too_big(rt: HostRuntime) -> Result<(), Fail> {
+    let refusals = [
+        (1_048_577, "definition 27 TooBig bytes=1048576\n"),
+        (1_048_576, "definition 4 Expected at=1048576\n"),
+    ];
+    for (length, text) in refusals {
+        let blanks = Vec::from_elem(rt.alloc(), b' ', length)?;
+        let (report, sink) = report_of(
+            rt.alloc(),
+            "krun run d.k p",
+            blanks.as_slice(),
+            "z()",
+            Vec::new(rt.alloc()),
+        )?;
+        assert_eq!(rt; sink.bytes(), text.as_bytes(), "{text}");
+        assert_eq!(rt; report.status, 3, "{text}");
+    }
+    Ok(())
+}
+
+#[test]
 fn counts_the_firings_of_each_worker(rt: HostRuntime) -> Result<(), Fail> {
     let (report, _) = report_of(
         rt.alloc(),
         "krun run d.k p",
-        TINY,
+        TINY.as_bytes(),
         "plus(s(z()),z())",
         Vec::new(rt.alloc()),
     )?;
@@ -159,7 +212,13 @@ fn refuses_other_words(rt: HostRuntime) -> Result<(), Fail> {
         "krun kast d.k p",
         "krun run d.k p more",
     ] {
-        let (report, sink) = report_of(rt.alloc(), line, TINY, "z()", Vec::new(rt.alloc()))?;
+        let (report, sink) = report_of(
+            rt.alloc(),
+            line,
+            TINY.as_bytes(),
+            "z()",
+            Vec::new(rt.alloc()),
+        )?;
         assert_eq!(rt; report.outcome, Outcome::Usage, "{line}");
         assert_eq!(rt; report.status, 2, "{line}");
         assert!(rt;
@@ -180,7 +239,13 @@ fn faults_of_reading_write_nothing(rt: HostRuntime) -> Result<(), Fail> {
     ];
     for (call, which) in faults {
         let failing = vec![in rt.alloc(); call]?;
-        let (report, sink) = report_of(rt.alloc(), "krun run d.k p", TINY, "z()", failing)?;
+        let (report, sink) = report_of(
+            rt.alloc(),
+            "krun run d.k p",
+            TINY.as_bytes(),
+            "z()",
+            failing,
+        )?;
         assert_eq!(rt; report.outcome, Outcome::ReadFault(which), "{call}");
         assert_eq!(rt; report.status, 5, "{call}");
         assert!(rt; sink.bytes().is_empty(), "{call}");
@@ -190,7 +255,10 @@ fn faults_of_reading_write_nothing(rt: HostRuntime) -> Result<(), Fail> {
 
 #[test]
 fn a_failed_write_keeps_the_outcome(rt: HostRuntime) -> Result<(), Fail> {
-    let mut shelf = MemShelf::new(files(rt.alloc(), TINY, "z()")?, Vec::new(rt.alloc()));
+    let mut shelf = MemShelf::new(
+        files(rt.alloc(), TINY.as_bytes(), "z()")?,
+        Vec::new(rt.alloc()),
+    );
     let mut sink = MemSink::new(rt.alloc(), 16, vec![in rt.alloc(); 2]?)?;
     let words = words(rt.alloc(), "krun run d.k p")?;
     let report = krun_alone(rt.alloc(), words.as_slice(), &mut shelf, &mut sink);
@@ -202,7 +270,7 @@ fn a_failed_write_keeps_the_outcome(rt: HostRuntime) -> Result<(), Fail> {
 
 #[test]
 fn runs_over_a_shelf_and_a_sink_that_never_fail(rt: HostRuntime) -> Result<(), Fail> {
-    let mut shelf = SureShelf::new(files(rt.alloc(), TINY, "plus(s(z()),z())")?);
+    let mut shelf = SureShelf::new(files(rt.alloc(), TINY.as_bytes(), "plus(s(z()),z())")?);
     let mut sink = SureSink::new();
     let words = words(rt.alloc(), "krun run d.k p")?;
     let report = krun_alone(rt.alloc(), words.as_slice(), &mut shelf, &mut sink);

@@ -3,7 +3,7 @@ ghost use Rattle.std.specs.Fmt.{decimal};
 ghost use Rattle.live_config.specs.Configuration.{plain};
 ghost use Rattle.rule_terms.specs.Language.{Language};
 ghost use Rattle.printed_form.specs.Configurations.{configuration_text as printed, names_of};
-ghost use Rattle.krun.specs.Outcome.{line_end};
+ghost use Rattle.krun.specs.Lines.{line_end};
 ghost use Rattle.krun.specs.Headline.{words_of_language};
 
 use k_terms::Memory;

@@ -1,14 +1,16 @@
-ghost use Rattle.std.specs.Prelude.{◌≡◌, ◌≢◌, ◌↔◌, ◌≤◌, ◌⊎◌, ◌∷◌, [], List, ℕ, Some, None, map, string_bytes, length, IfSome, IfOk, IfErr};
+ghost use Rattle.std.specs.Prelude.{◌≡◌, ◌≢◌, ◌↔◌, ◌<◌, ◌≤◌, ◌⊎◌, ◌∷◌, [], List, ℕ, Some, None, map, string_bytes, length, false, IfSome, IfOk, IfErr};
 ghost use Rattle.small_form.specs.declared.small.Small.{Small as Definition};
 ghost use Rattle.small_form.specs.Small.{IsSmall, IsSmallText, HaveLabels, unplaced, language_of};
 ghost use Rattle.small_form.specs.Program.{IsTermText};
-ghost use Rattle.krun.specs.Outcome.{status_of, text_of, run_word};
+ghost use Rattle.krun.specs.Outcome.{status_of, text_of, run_word, wants_memory, HasFixedText, IsReported};
+ghost use Rattle.krun.specs.Refusals.{IsRefused, HasNoRefusal, IsOnlyRefusal};
 ghost use Rattle.krun.specs.Headline.{word_at, caller_fired, run_text as text_of_run, IsRun, Took};
-ghost use Rattle.krun.specs.Causes.{IsJob, IsDefinition, IsProgram, IsWholeRun};
+ghost use Rattle.krun.specs.Causes.{IsJob, IsDefinition, IsUnbuilt, IsOfSmallForm, IsProgram, IsWholeRun};
 ghost use Rattle.k_terms.specs.declared.value.Value.{Value as Val};
 ghost use Rattle.rule_terms.specs.Rewriting.{IsStuck};
 ghost use Rattle.live_config.specs.Configuration.{plain};
-ghost use Rattle.krun.specs.declared.outcome.Outcome.TheVariants.{Usage as WantOfWords, Unbuilt as NotOfSmallForm, Program as ProgramRefused, Memory as WantOfMemory, ReadFault as FaultOf, Final as OfFinal, Budget as OfBudget};
+ghost use Rattle.krun.specs.declared.def_fault.DefFault.{DefFault as Fault};
+ghost use Rattle.krun.specs.declared.outcome.Outcome.TheVariants.{Usage as WantOfWords, Definition as DefinitionRefused, Unbuilt as NotOfSmallForm, Program as ProgramRefused, Memory as WantOfMemory, ReadFault as FaultOf, Final as OfFinal, Budget as OfBudget};
 ghost use Rattle.krun.specs.declared.outcome.ReadRefusal.TheVariants.{NoReading};
 ghost use Rattle.krun.specs.declared.outcome.Which.TheVariants.{Definition as TheDefinition, Program as TheProgram};
 ghost use Rattle.k_edge.specs.Faults.{Rose};
@@ -18,6 +20,9 @@ ghost use Rattle.live_config.specs.declared.site.Fired.{Fired as FiredEntry};
 ghost use Rattle.live_config.specs.Runs.{IsLog};
 ghost use Rattle.front_run.specs.Front.{one_cell, AreFrontRules};
 
+use crate::def_fault::DefFault;
+use crate::definition::definition_at;
+use crate::file::file_bytes;
 use crate::job::job_of;
 use crate::outcome::{Outcome, ReadRefusal, WRITE_FAULT, Which};
 use crate::report::Report;
@@ -27,12 +32,12 @@ use k_edge::{Shelf, Sink};
 use k_terms::{Many, Memory, Numbers, Value};
 use live_config::{Fired, Live};
 use rule_terms::Defs;
-use small_form::{Small, language, read_definition, read_program};
+use small_form::{Small, language, read_program};
 use std::alloc::Global;
-use whole_files::{Unread, read_file, write_all};
+use whole_files::write_all;
 
-/// The greatest length of a definition and of a program, in bytes.
-const FILE_LIMIT: usize = 4096;
+/// The greatest length of a program, in bytes.
+const PROGRAM_LIMIT: usize = 4096;
 
 /// How many instances may fire.
 const BUDGET: u32 = 100_000;
@@ -48,57 +53,6 @@ struct Ran {
     counts: Numbers,
     end: Live,
     text: Vec<u8>,
-}
-
-/// The bytes of a file.
-fn file_bytes<H: Shelf>(
-    alloc: Global,
-    shelf: &mut H,
-    name: &str,
-    which: Which,
-) -> Result<Vec<u8>, Outcome>
-    ensures kept { (other : List ℕ) → H.told shelf.new other ≡ H.told shelf.old other }
-    ensures whole { IfSome (H.told shelf.old name.now) (λ file.
-        IfOk result (λ bytes. length bytes.items ≤ 4096 → bytes.items ≡ file)) }
-    ensures all { IfSome (H.told shelf.old name.now) (λ file.
-        IfOk result (λ bytes. length file ≤ 4096 → bytes.items ≡ file)) }
-    ensures refused { IfErr result (λ refusal. run_word refusal ≡ None) }
-    ensures words { IfErr result (λ refusal. refusal ≢ WantOfWords) }
-    ensures later { (other : List ℕ) → H.faults shelf.old other ≤ H.faults shelf.new other }
-    ensures only { IfErr result (λ refusal. (refusal ≡ WantOfMemory) ⊎ (refusal ≡ FaultOf which)) }
-    ensures fault { IfErr result (λ refusal. refusal ≡ FaultOf which →
-        Rose (H.faults shelf.old name.now) (H.faults shelf.new name.now)) }
-{
-    match read_file(alloc, shelf, name, FILE_LIMIT) {
-        Ok(bytes) => Ok(bytes),
-        Err(Unread::Fault) => Err(Outcome::ReadFault(which)),
-        Err(Unread::Memory) => Err(Outcome::Memory),
-    }
-}
-
-/// The definition that a file holds.
-fn definition_at<H: Shelf>(alloc: Global, shelf: &mut H, name: &str) -> Result<Small, Outcome>
-    ensures kept { (other : List ℕ) → H.told shelf.new other ≡ H.told shelf.old other }
-    ensures read { IfSome (H.told shelf.old name.now) (λ file. IfOk result (λ small. IsSmallText file small)) }
-    ensures small { IfOk result (λ small. IsSmall small) }
-    ensures labels { IfOk result (λ small. HaveLabels small.productions) }
-    ensures only_one { IfSome (H.told shelf.old name.now) (λ file.
-        IfOk result (λ small. (d : Definition) → IsSmallText file d → unplaced small ≡ unplaced d)) }
-    ensures unbuilt { IfErr result (λ refusal. refusal ≡ NotOfSmallForm →
-        IfSome (H.told shelf.old name.now) (λ file. IsDefinition file → ⊥)) }
-    ensures refused { IfErr result (λ refusal. run_word refusal ≡ None) }
-    ensures words { IfErr result (λ refusal. refusal ≢ WantOfWords) }
-    ensures later { (other : List ℕ) → H.faults shelf.old other ≤ H.faults shelf.new other }
-    ensures only { IfErr result (λ refusal. refusal ≢ FaultOf TheProgram) }
-    ensures no_program { (cause : ReadRefusal) → IfErr result (λ refusal. refusal ≢ ProgramRefused cause) }
-    ensures fault { IfErr result (λ refusal. refusal ≡ FaultOf TheDefinition →
-        Rose (H.faults shelf.old name.now) (H.faults shelf.new name.now)) }
-{
-    let bytes = file_bytes(alloc, shelf, name, Which::Definition)?;
-    let Some(small) = read_definition(alloc, bytes.as_slice())? else {
-        return Err(Outcome::Unbuilt);
-    };
-    Ok(small)
 }
 
 /// The value of the program that a file holds.
@@ -118,10 +72,11 @@ fn program_at<H: Shelf>(
     ensures later { (other : List ℕ) → H.faults shelf.old other ≤ H.faults shelf.new other }
     ensures only { IfErr result (λ refusal. refusal ≢ FaultOf TheDefinition) }
     ensures no_definition { IfErr result (λ refusal. refusal ≢ NotOfSmallForm) }
+    ensures no_fault { (fault : Fault) → IfErr result (λ refusal. refusal ≢ DefinitionRefused fault) }
     ensures fault { IfErr result (λ refusal. refusal ≡ FaultOf TheProgram →
         Rose (H.faults shelf.old name.now) (H.faults shelf.new name.now)) }
 {
-    let bytes = file_bytes(alloc, shelf, name, Which::Program)?;
+    let bytes = file_bytes(alloc, shelf, name, PROGRAM_LIMIT, Which::Program)?;
     let Some(value) = read_program(alloc, small.productions.as_slice(), bytes.as_slice())? else {
         return Err(Outcome::Program(ReadRefusal::NoReading { at: 0 }));
     };
@@ -189,8 +144,11 @@ fn run_job<H: Shelf>(alloc: Global, shelf: &mut H, words: &[String]) -> Result<R
     ensures job { IfOk result (λ _. IsJob (map string_bytes words.now)) }
     ensures definition_fault { IfErr result (λ refusal. refusal ≡ FaultOf TheDefinition →
         Rose (H.faults shelf.old (word_at (map string_bytes words.now) 2)) (H.faults shelf.new (word_at (map string_bytes words.now) 2))) }
+    ensures definition { (fault : Fault) → IfErr result (λ refusal. refusal ≡ DefinitionRefused fault →
+        IfSome (H.told shelf.old (word_at (map string_bytes words.now) 2)) (λ definition. IsOnlyRefusal definition fault)) }
+    ensures never_memory { (fault : Fault) → IfErr result (λ refusal. refusal ≡ DefinitionRefused fault → wants_memory fault ≡ false) }
     ensures unbuilt { IfErr result (λ refusal. refusal ≡ NotOfSmallForm →
-        IfSome (H.told shelf.old (word_at (map string_bytes words.now) 2)) (λ definition. IsDefinition definition → ⊥)) }
+        IfSome (H.told shelf.old (word_at (map string_bytes words.now) 2)) IsUnbuilt) }
     ensures program_fault { IfErr result (λ refusal. refusal ≡ FaultOf TheProgram →
         IfSome (H.told shelf.old (word_at (map string_bytes words.now) 2)) IsDefinition ×
         Rose (H.faults shelf.old (word_at (map string_bytes words.now) 3)) (H.faults shelf.new (word_at (map string_bytes words.now) 3))) }
@@ -209,8 +167,8 @@ fn run_job<H: Shelf>(alloc: Global, shelf: &mut H, words: &[String]) -> Result<R
 }
 
 /// Writes a text, and gives the exit status: that of the outcome, or the one of a failed write.
-fn status_after<O: Sink>(out: &mut O, text: &[u8], outcome: Outcome) -> u8
-    ensures status { (result ≡ 6) ⊎ (result ≡ status_of outcome) }
+fn status_after<O: Sink>(out: &mut O, text: &[u8], outcome: &Outcome) -> u8
+    ensures status { (result ≡ 6) ⊎ (result ≡ status_of outcome.now) }
     ensures took { result ≢ 6 → Took (O.taken out.old) (O.taken out.new) text.now }
     ensures front { result ≡ 6 → AppendsFront (O.taken out.old) (O.taken out.new) text.now }
     ensures fault { result ≡ 6 → Rose (O.faults out.old) (O.faults out.new) }
@@ -238,7 +196,7 @@ fn report_run<O: Sink>(out: &mut O, ran: Ran) -> Report
         text,
     } = ran;
     Report {
-        status: status_after(out, text.as_slice(), outcome),
+        status: status_after(out, text.as_slice(), &outcome),
         outcome,
         fired,
         counts,
@@ -246,8 +204,24 @@ fn report_run<O: Sink>(out: &mut O, ran: Ran) -> Report
     }
 }
 
-/// The report of a refusal, whose line is written.
-fn report_refusal<O: Sink>(alloc: Global, out: &mut O, outcome: Outcome) -> Report
+/// The report of a refusal.
+fn refused(alloc: Global, status: u8, outcome: Outcome) -> Report
+    ensures status { result.status ≡ status }
+    ensures same { result.outcome ≡ outcome }
+    ensures empty { (result.fired ≡ []) × (result.counts ≡ []) × (result.end ≡ None) }
+{
+    Report {
+        status,
+        outcome,
+        fired: Many::new(alloc),
+        counts: Many::new(alloc),
+        end: None,
+    }
+}
+
+/// The report of a refusal whose line is always the same, and is written.
+fn report_fixed<O: Sink>(alloc: Global, out: &mut O, outcome: Outcome) -> Report
+    requires { HasFixedText outcome }
     ensures status { (result.status ≡ 6) ⊎ (result.status ≡ status_of result.outcome) }
     ensures same { result.outcome ≡ outcome }
     ensures empty { (result.fired ≡ []) × (result.counts ≡ []) × (result.end ≡ None) }
@@ -255,13 +229,40 @@ fn report_refusal<O: Sink>(alloc: Global, out: &mut O, outcome: Outcome) -> Repo
     ensures front { result.status ≡ 6 → AppendsFront (O.taken out.old) (O.taken out.new) (text_of outcome) }
     ensures fault { result.status ≡ 6 → Rose (O.faults out.old) (O.faults out.new) }
 {
-    let status = status_after(out, outcome.line(), outcome);
-    Report {
-        status,
-        outcome,
-        fired: Many::new(alloc),
-        counts: Many::new(alloc),
-        end: None,
+    let status = status_after(out, outcome.fixed_line(), &outcome);
+    refused(alloc, status, outcome)
+}
+
+/// The report of a definition that was refused, whose line is written; where memory is wanting for the line, that is the
+/// outcome.
+fn report_fault<O: Sink>(alloc: Global, out: &mut O, fault: DefFault) -> Report
+    ensures status { (result.status ≡ 6) ⊎ (result.status ≡ status_of result.outcome) }
+    ensures same { (result.outcome ≡ DefinitionRefused fault) ⊎ (result.outcome ≡ WantOfMemory) }
+    ensures empty { (result.fired ≡ []) × (result.counts ≡ []) × (result.end ≡ None) }
+    ensures took { result.status ≢ 6 → Took (O.taken out.old) (O.taken out.new) (text_of result.outcome) }
+    ensures front { result.status ≡ 6 → AppendsFront (O.taken out.old) (O.taken out.new) (text_of result.outcome) }
+    ensures fault { result.status ≡ 6 → Rose (O.faults out.old) (O.faults out.new) }
+{
+    let Ok(line) = fault.line(alloc) else {
+        return report_fixed(alloc, out, Outcome::Memory);
+    };
+    let outcome = Outcome::Definition(fault);
+    let status = status_after(out, line.as_slice(), &outcome);
+    refused(alloc, status, outcome)
+}
+
+/// The report of a refusal, whose line is written.
+fn report_refusal<O: Sink>(alloc: Global, out: &mut O, outcome: Outcome) -> Report
+    ensures status { (result.status ≡ 6) ⊎ (result.status ≡ status_of result.outcome) }
+    ensures same { IsReported outcome result.outcome }
+    ensures empty { (result.fired ≡ []) × (result.counts ≡ []) × (result.end ≡ None) }
+    ensures took { result.status ≢ 6 → Took (O.taken out.old) (O.taken out.new) (text_of result.outcome) }
+    ensures front { result.status ≡ 6 → AppendsFront (O.taken out.old) (O.taken out.new) (text_of result.outcome) }
+    ensures fault { result.status ≡ 6 → Rose (O.faults out.old) (O.faults out.new) }
+{
+    match outcome {
+        Outcome::Definition(fault) => report_fault(alloc, out, fault),
+        fixed => report_fixed(alloc, out, fixed),
     }
 }
 
@@ -292,8 +293,11 @@ pub fn krun_alone<H: Shelf, O: Sink>(
     ensures usage { (result.outcome ≡ WantOfWords) ↔ (IsJob (map string_bytes words.now) → ⊥) }
     ensures definition_fault { result.outcome ≡ FaultOf TheDefinition →
         Rose (H.faults shelf.old (word_at (map string_bytes words.now) 2)) (H.faults shelf.new (word_at (map string_bytes words.now) 2)) }
+    ensures definition { (fault : Fault) → result.outcome ≡ DefinitionRefused fault →
+        IfSome (H.told shelf.old (word_at (map string_bytes words.now) 2)) (λ definition. IsRefused definition fault) }
+    ensures never_memory { (fault : Fault) → result.outcome ≡ DefinitionRefused fault → wants_memory fault ≡ false }
     ensures unbuilt { result.outcome ≡ NotOfSmallForm →
-        IfSome (H.told shelf.old (word_at (map string_bytes words.now) 2)) (λ definition. IsDefinition definition → ⊥) }
+        IfSome (H.told shelf.old (word_at (map string_bytes words.now) 2)) IsUnbuilt }
     ensures program_fault { result.outcome ≡ FaultOf TheProgram →
         IfSome (H.told shelf.old (word_at (map string_bytes words.now) 2)) IsDefinition ×
         Rose (H.faults shelf.old (word_at (map string_bytes words.now) 3)) (H.faults shelf.new (word_at (map string_bytes words.now) 3)) }
@@ -304,8 +308,12 @@ pub fn krun_alone<H: Shelf, O: Sink>(
 
     // Where a file is told and no count rose, its refusal comes exactly where it has the cause, and else the run is whole;
     // only memory may be wanting.
+    ensures definition_where { (fault : Fault) → IsJob (map string_bytes words.now) → IfSome (H.told shelf.old (word_at (map string_bytes words.now) 2)) (λ definition.
+        IsRefused definition fault →
+        (Rose (H.faults shelf.old (word_at (map string_bytes words.now) 2)) (H.faults shelf.new (word_at (map string_bytes words.now) 2)) → ⊥) →
+        (result.outcome ≡ DefinitionRefused fault) ⊎ (result.outcome ≡ WantOfMemory)) }
     ensures unbuilt_where { IsJob (map string_bytes words.now) → IfSome (H.told shelf.old (word_at (map string_bytes words.now) 2)) (λ definition.
-        (IsDefinition definition → ⊥) →
+        HasNoRefusal definition → (IsOfSmallForm definition → ⊥) →
         (Rose (H.faults shelf.old (word_at (map string_bytes words.now) 2)) (H.faults shelf.new (word_at (map string_bytes words.now) 2)) → ⊥) →
         (result.outcome ≡ NotOfSmallForm) ⊎ (result.outcome ≡ WantOfMemory)) }
     ensures no_reading_where { IsJob (map string_bytes words.now) → IfSome (H.told shelf.old (word_at (map string_bytes words.now) 2)) (λ definition.

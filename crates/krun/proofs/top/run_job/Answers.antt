@@ -7,6 +7,7 @@ use Rattle.live_config.specs.Runs.{IsLog}
 use Rattle.front_run.specs.Front.{one_cell, AreFrontRules}
 use Rattle.k_terms.specs.declared.value.Value.{Value}
 use Rattle.small_form.specs.declared.small.Small.{Small}
+use Rattle.krun.specs.Refusals.{HasNoRefusal}
 use Rattle.krun.specs.Causes.{IsDefinition, IsProgram}
 use Rattle.krun.specs.Headline.{word_at}
 use Rattle.krun.specs.declared.outcome.ReadRefusal.TheVariants.{NoReading}
@@ -25,6 +26,7 @@ returns-clause-run g c =
     let r = c.run_of.result in
     let is_defs = c.in_ok-defs.ensures.ok in
     is_run _ _ small value r
+    (subst (λ name. IfSome (told c.args.shelf.now name) HasNoRefusal) c.in-Some.ensures.definition c.in_ok-small.ensures.accepted)
     (subst (λ name. IfSome (told c.args.shelf.now name) (λ bytes. IsSmallText bytes small)) c.in-Some.ensures.definition c.in_ok-small.ensures.read)
     (subst (λ file. IfSome file (λ bytes. IsTermText small.productions bytes value))
     (c.definition_at.ensures.kept c.in-Some.job.program.now ∙ ap (told c.args.shelf.now) c.in-Some.ensures.program)
@@ -50,6 +52,7 @@ returns-in_err-program-clause-no_reading g c = λ cause.
     (λ e. e ≡ Program cause → (cause ≡ NoReading 0) × IfSome definition (λ bytes. IsDefinition bytes × IfSome program (λ text. IsProgram bytes text → ⊥)))
     c.from_residual-in_err-program.ensures.1
     (refused_program definition program small cause refusal
+    (subst (λ n. IfSome (told c.args.shelf.now n) HasNoRefusal) name c.in_ok-small.ensures.accepted)
     (subst (λ n. IfSome (told c.args.shelf.now n) (λ bytes. IsSmallText bytes small)) name c.in_ok-small.ensures.read)
     (subst (λ n. IfSome (told c.args.shelf.now n) (λ bytes. (d : Small) → IsSmallText bytes d → unplaced small ≡ unplaced d)) name c.in_ok-small.ensures.only_one)
     (subst (λ file. refusal ≡ Program cause → (cause ≡ NoReading 0) × IfSome file (λ bytes. (v : Value) → IsTermText small.productions bytes v → ⊥))

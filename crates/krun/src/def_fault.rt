@@ -1,0 +1,92 @@
+ghost use Rattle.std.specs.Prelude.{◌≡◌, ◌++◌, IfOk};
+ghost use Rattle.std.specs.Fmt.{decimal};
+ghost use Rattle.krun.specs.Lines.{line_end, lex_line, module_line, fault_line};
+
+use k_lexer::LexFault;
+use k_terms::Memory;
+use module_reader::ModuleFault;
+use std::alloc::Global;
+
+/// Why a definition was refused, in the order in which it is tried.
+#[derive(Debug, Drop, PartialEq, Eq)]
+pub enum DefFault {
+    /// It has more than this many bytes.
+    TooBig { bytes: u64 },
+    /// Its bytes have no tokens.
+    Lex(LexFault),
+    /// Its tokens are no modules that can be put together.
+    Module(ModuleFault),
+    /// Memory was wanting.
+    Memory,
+}
+
+impl DefFault {
+    /// The line that the refusal writes.
+    pub fn line(&self, alloc: Global) -> Result<Vec<u8>, Memory>
+        ensures { IfOk result (λ line. line.items ≡ fault_line self.now) }
+    {
+        match self {
+            DefFault::TooBig { bytes } => {
+                numbered_line(alloc, "definition 27 TooBig bytes=", *bytes)
+            }
+            DefFault::Lex(fault) => line_of_lex_fault(alloc, *fault),
+            DefFault::Module(fault) => line_of_module_fault(alloc, fault),
+            DefFault::Memory => Ok(Vec::new(alloc)),
+        }
+    }
+}
+
+/// The line of a fault of the tokens.
+fn line_of_lex_fault(alloc: Global, fault: LexFault) -> Result<Vec<u8>, Memory>
+    ensures { IfOk result (λ line. line.items ≡ lex_line fault) }
+{
+    match fault {
+        LexFault::BadByte { at } => numbered_line(alloc, "definition 1 BadByte at=", at as u64),
+        LexFault::OpenString { at } => {
+            numbered_line(alloc, "definition 2 OpenString at=", at as u64)
+        }
+        LexFault::OpenComment { at } => {
+            numbered_line(alloc, "definition 3 OpenComment at=", at as u64)
+        }
+        LexFault::Memory => Ok(Vec::new(alloc)),
+    }
+}
+
+/// The line of a fault of the modules.
+fn line_of_module_fault(alloc: Global, fault: &ModuleFault) -> Result<Vec<u8>, Memory>
+    ensures { IfOk result (λ line. line.items ≡ module_line fault.now) }
+{
+    match fault {
+        ModuleFault::Expected { at } => {
+            numbered_line(alloc, "definition 4 Expected at=", *at as u64)
+        }
+        ModuleFault::NoModule { name } => {
+            named_line(alloc, "definition 5 NoModule name=", name.as_slice())
+        }
+        ModuleFault::ImportCycle { name } => {
+            named_line(alloc, "definition 6 ImportCycle name=", name.as_slice())
+        }
+        ModuleFault::TwoModules { name } => {
+            named_line(alloc, "definition 7 TwoModules name=", name.as_slice())
+        }
+        ModuleFault::Memory => Ok(Vec::new(alloc)),
+    }
+}
+
+/// A line of a text and a number.
+fn numbered_line(alloc: Global, text: &str, number: u64) -> Result<Vec<u8>, Memory>
+    ensures { IfOk result (λ line. line.items ≡ text.now ++ decimal number ++ line_end) }
+{
+    let line = format!(in alloc; "{text}{number}\n")?;
+    Ok(Vec::from_slice(alloc, line.as_bytes())?)
+}
+
+/// A line of a text and a name.
+fn named_line(alloc: Global, text: &str, name: &[u8]) -> Result<Vec<u8>, Memory>
+    ensures { IfOk result (λ line. line.items ≡ text.now ++ name.now ++ line_end) }
+{
+    let mut line = Vec::from_slice(alloc, text.as_bytes())?;
+    line.extend_from_slice(name)?;
+    line.push(b'\n')?;
+    Ok(line)
+}
