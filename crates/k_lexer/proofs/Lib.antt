@@ -9,3 +9,5 @@ pub mod Taking
 pub mod Steps
 pub mod Faults
 pub mod Words
+pub mod Before
+pub mod Standing

@@ -11,19 +11,19 @@ use Rattle.k_lexer.specs.Lexing.{Reaches, start, blank, comment, token, Stops, I
 use Rattle.k_lexer.proofs.Taking.{taken_same, IsBlocked, stopped, nil_blocked, stops_same}
 
 -- one step: something is taken, and leads from one place and its tokens to the next
-record Step (text : List ℕ) (tokens : List Token) (at : ℕ) (more : List Token) (next : ℕ) : Type 0 where
-  kind : Option Kind
-  size : ℕ
-  taken : IsTaken (drop at text) kind size
-  place_is : next ≡ at + size
-  tokens_are : more ≡ tokens ++ made kind at size
+pub record Step (text : List ℕ) (tokens : List Token) (at : ℕ) (more : List Token) (next : ℕ) : Type 0 where
+  pub kind : Option Kind
+  pub size : ℕ
+  pub taken : IsTaken (drop at text) kind size
+  pub place_is : next ≡ at + size
+  pub tokens_are : more ≡ tokens ++ made kind at size
 
 -- steps that lead to an end
-data Leads (text : List ℕ) (last : List Token) (end : ℕ) : List Token → ℕ → Type 0 where
+pub data Leads (text : List ℕ) (last : List Token) (end : ℕ) : List Token → ℕ → Type 0 where
   stay : Leads text last end last end
   go : (tokens : List Token) (at : ℕ) (more : List Token) (next : ℕ) → Step text tokens at more next → Leads text last end more next → Leads text last end tokens at
 
-step_same : (text : List ℕ) (tokens ms ns : List Token) (at m n : ℕ) → Step text tokens at ms m → Step text tokens at ns n → (ms ≡ ns) × (m ≡ n)
+pub step_same : (text : List ℕ) (tokens ms ns : List Token) (at m n : ℕ) → Step text tokens at ms m → Step text tokens at ns n → (ms ≡ ns) × (m ≡ n)
 step_same text tokens ms ns at m n f g =
     let same = taken_same (drop at text) f.kind g.kind f.size g.size f.taken g.taken in (
       f.tokens_are ∙ ap (λ k. tokens ++ made k at f.size) same.0 ∙ ap (λ s. tokens ++ made g.kind at s) same.1 ∙ sym g.tokens_are,
@@ -34,7 +34,7 @@ leads_more : (text : List ℕ) (mid last : List Token) (m n : ℕ) (tokens : Lis
 leads_more text mid last m n tokens at stay step = go mid m last n step stay
 leads_more text mid last m n tokens at (go _ _ more next first later) step = go tokens at more next first (leads_more text mid last m n more next later step)
 
-blank_step : (text : List ℕ) (tokens : List Token) (at : ℕ) → is_blank (slice_index text at) ≡ true → Step text tokens at tokens (at + 1)
+pub blank_step : (text : List ℕ) (tokens : List Token) (at : ℕ) → is_blank (slice_index text at) ≡ true → Step text tokens at tokens (at + 1)
 blank_step text tokens at is = record {
   kind = None;
   size = 1;
@@ -43,14 +43,14 @@ blank_step text tokens at is = record {
   tokens_are = sym (append-nil tokens);
 }
 
-comment_step : (text : List ℕ) (tokens : List Token) (at n : ℕ) → IsComment (drop at text) n → Step text tokens at tokens (at + n)
+pub comment_step : (text : List ℕ) (tokens : List Token) (at n : ℕ) → IsComment (drop at text) n → Step text tokens at tokens (at + n)
 comment_step text tokens at n is = record { kind = None; size = n; taken = inr is; place_is = refl; tokens_are = sym (append-nil tokens) }
 
-token_step : (text : List ℕ) (tokens : List Token) (at n : ℕ) (kind : Kind) → opens_comment (drop at text) ≡ false → IsLongest kind (drop at text) n
+pub token_step : (text : List ℕ) (tokens : List Token) (at n : ℕ) (kind : Kind) → opens_comment (drop at text) ≡ false → IsLongest kind (drop at text) n
     → Step text tokens at (tokens ++ made (Some kind) at n) (at + n)
 token_step text tokens at n kind none is = record { kind = Some kind; size = n; taken = (none, is); place_is = refl; tokens_are = refl }
 
-leads : (text : List ℕ) (tokens : List Token) (at : ℕ) → Reaches text tokens at → Leads text tokens at [] 0
+pub leads : (text : List ℕ) (tokens : List Token) (at : ℕ) → Reaches text tokens at → Leads text tokens at [] 0
 leads text tokens at start = stay
 leads text tokens at (blank ts p before is) = leads_more text ts ts p (p + 1) [] 0 (leads text ts p before) (blank_step text ts p is)
 leads text tokens at (comment ts p n before is) = leads_more text ts ts p (p + n) [] 0 (leads text ts p before) (comment_step text ts p n is)

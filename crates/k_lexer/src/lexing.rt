@@ -8,6 +8,7 @@ ghost use Rattle.k_lexer.specs.Characters.{is_blank as blank};
 ghost use Rattle.k_lexer.specs.Tokens.{opens_comment};
 ghost use Rattle.k_lexer.specs.Fronts.{IsTaken, made};
 ghost use Rattle.k_lexer.specs.Laws.{IsReached, HasTokens};
+ghost use Rattle.k_lexer.specs.Before.{AreBefore};
 ghost use Rattle.k_lexer.specs.Lexing.{Reaches, AreTokens, Stops, IsStop, IsFault, place as place_of};
 
 use crate::fault::LexFault;
@@ -193,4 +194,29 @@ pub fn find_fault(text: &[u8]) -> Option<LexFault>
         return Some(fault);
     }
     Some(LexFault::BadByte { at })
+}
+
+/// The tokens before a place: the longest list of those that lead to a place not past it. For a text with tokens these are
+/// all at its end, and for a text with a fault those before the fault at the fault's place.
+pub fn tokens_before(alloc: Global, text: &[u8], at: usize) -> Result<Vec<Token>, LexFault>
+    ensures ok { IfOk result (λ found. AreBefore text.now at found.items) }
+    ensures fault { IfErr result (λ fault. fault ≡ Memory) }
+{
+    let mut found = Vec::new(alloc);
+    let mut from = 0;
+    while from < text.len() {
+        let (_, rest) = text.split_at(from);
+        let piece = match next_piece(rest, from) {
+            Ok(piece) => piece,
+            Err(_) => return Ok(found),
+        };
+        if at - from < piece.size {
+            return Ok(found);
+        }
+        if let Err(fault) = add_token(&mut found, piece, from) {
+            return Err(fault);
+        }
+        from += piece.size;
+    }
+    Ok(found)
 }

@@ -15,6 +15,6 @@ mod token;
 mod whole;
 
 pub use fault::LexFault;
-pub use lexing::{find_fault, tokens};
+pub use lexing::{find_fault, tokens, tokens_before};
 pub use token::{Kind, Token};
 pub use whole::{is_mark, is_word};

@@ -1,4 +1,4 @@
-use crate::{Kind, LexFault, Token, find_fault, is_mark, is_word, tokens};
+use crate::{Kind, LexFault, Token, find_fault, is_mark, is_word, tokens, tokens_before};
 use std::alloc::Global;
 use std::test::Fail;
 
@@ -8,8 +8,13 @@ fn shown(alloc: Global, text: &[u8]) -> Result<String, Fail> {
         Ok(found) => found,
         Err(fault) => return Ok(format!(in alloc; "{fault}")?),
     };
+    listed(alloc, &found)
+}
+
+/// The tokens as one letter for each kind with its places.
+fn listed(alloc: Global, found: &[Token]) -> Result<String, Fail> {
     let mut line = String::new(alloc);
-    for token in &found {
+    for token in found {
         line.push_str(letter(token.kind))?;
         let places = format!(in alloc; "{}-{} ", token.start, token.end)?;
         line.push_str(&places)?;
@@ -122,5 +127,23 @@ fn tells_words_and_marks(rt: HostRuntime) -> Result<(), Fail> {
     }
     assert!(rt; is_mark(b'-') && is_mark(b'~'));
     assert!(rt; !(is_mark(b'_') || is_mark(b'"') || is_mark(b' ') || is_mark(0x7f)));
+    Ok(())
+}
+
+#[test]
+fn stops_before_a_place(rt: HostRuntime) -> Result<(), Fail> {
+    let cases: [(&[u8], usize, &str); 7] = [
+        (b"ab 1", 4, "w0-2 i3-4 "),
+        (b"ab 1", 9, "w0-2 i3-4 "),
+        (b"ab 1", 3, "w0-2 "),
+        (b"ab 1", 1, ""),
+        (b"a \"b", 2, "w0-1 "),
+        (b"a/*\xff*/b", 3, "w0-1 "),
+        (b"a/*\xff*/b", 7, "w0-1 w6-7 "),
+    ];
+    for (text, at, want) in cases {
+        let found = tokens_before(rt.alloc(), text, at)?;
+        assert_eq!(rt; listed(rt.alloc(), &found)?.as_str(), want);
+    }
     Ok(())
 }
