@@ -1,0 +1,5 @@
+pub mod Cutting
+pub mod Numbering
+pub mod Backward
+pub mod ShapeValues
+pub mod Telling

@@ -1,0 +1,6 @@
+pub mod Grammar
+pub mod Edges
+pub mod Reading
+pub mod Cuts
+pub mod Values
+pub mod Laws
