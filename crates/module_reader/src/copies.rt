@@ -25,7 +25,8 @@ fn copy_items(alloc: Global, items: &[Item]) -> Result<Many<Item>, Memory>
     Ok(Many::from_vec(copies))
 }
 
-fn copy_form(alloc: Global, form: &Form) -> Result<Form, Memory>
+/// A copy of how a production is written.
+pub fn copy_form(alloc: Global, form: &Form) -> Result<Form, Memory>
     ensures { IfOk result (λ it. it ≡ form.now) }
 {
     Ok(match form {
@@ -53,7 +54,8 @@ fn copy_strict(alloc: Global, strict: &Strict) -> Result<Strict, Memory>
     })
 }
 
-fn copy_attrs(alloc: Global, attrs: &Attrs) -> Result<Attrs, Memory>
+/// A copy of attributes.
+pub fn copy_attrs(alloc: Global, attrs: &Attrs) -> Result<Attrs, Memory>
     ensures { IfOk result (λ it. it ≡ attrs.now) }
 {
     Ok(Attrs {

@@ -10,6 +10,7 @@ mod modules;
 mod names;
 mod reading;
 
+pub use copies::{copy_attrs, copy_form};
 pub use fault::ModuleFault;
 pub use file_reader::Sentence;
 pub use modules::Modules;
