@@ -1,0 +1,26 @@
+use Rattle.std.proofs.Common.{List, [], subst}
+use Rattle.span_table.specs.declared.row.Row.{Row}
+use Rattle.span_table.specs.Rows.{Adds, IsNear}
+use Rattle.span_table.proofs.Saturating.{saturated, near_sound}
+use Rattle.span_table.proofs.passes.saturate.Goals as goal
+
+pub returns-then-not-branch-clause-covers : goal.returns-then-not-branch-clause-covers
+returns-then-not-branch-clause-covers c =
+    let near = subst (λ (rows : List Row). Adds (IsNear c.args.grammar.now c.args.empty.now rows) [] c.in_ok-made.made.items) c.as_slice.ensures.value c.in_ok-made.ensures in
+    saturated c.args.grammar.now c.args.empty.now c.args.rows.now.items c.loop-made.rows.items c.in_ok-made.made.items c.add_all.new.rows.items c.loop-made.invariant.grows near
+    c.in_ok-add_all.ensures.ok (c.in_ok-add_all.ensures.same c.if-not-branch.true)
+
+pub loop-made-preserved : goal.loop-made-preserved
+loop-made-preserved c =
+    let near = subst (λ (rows : List Row). Adds (IsNear c.args.grammar.now c.args.empty.now rows) [] c.in_ok-made.made.items) c.as_slice.ensures.value c.in_ok-made.ensures in
+    record {
+      grows = λ x has. c.in_ok-add_all.ensures.ok.grows x (c.loop-made.invariant.grows x has);
+      sound = near_sound c.args.grammar.now c.args.empty.now c.args.rows.now.items c.loop-made.rows.items c.in_ok-made.made.items c.add_all.new.rows.items c.loop-made.invariant.sound near
+          c.in_ok-add_all.ensures.ok;
+    }
+
+pub returns-then-not-branch-clause-sound : goal.returns-then-not-branch-clause-sound
+returns-then-not-branch-clause-sound c =
+    let near = subst (λ (rows : List Row). Adds (IsNear c.args.grammar.now c.args.empty.now rows) [] c.in_ok-made.made.items) c.as_slice.ensures.value c.in_ok-made.ensures in
+    near_sound c.args.grammar.now c.args.empty.now c.args.rows.now.items c.loop-made.rows.items c.in_ok-made.made.items c.add_all.new.rows.items c.loop-made.invariant.sound near
+    c.in_ok-add_all.ensures.ok

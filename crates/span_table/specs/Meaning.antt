@@ -1,0 +1,58 @@
+-- What a row of the table says.
+use Rattle.std.specs.Prelude.{◌≡◌, ℕ, ◌+◌, Bool, true, List, [], ◌∷◌, ◌++◌, Some}
+use Rattle.grammar_terms.specs.declared.production.Production.{Production}
+use Rattle.grammar_terms.specs.declared.shape.Shape.{Shape}
+use Rattle.grammar_terms.specs.declared.word.Word.{Word}
+use Rattle.grammar_terms.specs.Cuts.{Has}
+use Rattle.grammar_terms.specs.Grammar.{Syntax, production_at}
+use Rattle.grammar_terms.specs.Reading.{Reads, Child, IsLeafAt, IsTerminalAt, is_lone}
+use Rattle.span_table.specs.declared.row.Held.{Held}
+use Rattle.span_table.specs.declared.row.Key.{Key}
+use Rattle.span_table.specs.declared.row.Key.TheVariants.{Front, Whole, Token}
+use Rattle.span_table.specs.declared.row.Row.{Row}
+use Rattle.span_table.specs.declared.sign.Sign.{Sign}
+use Rattle.span_table.specs.declared.sign.Sign.TheVariants.{Leaf as LeafSign}
+use Rattle.span_table.specs.Codes.{code_of, codes_of}
+use Rattle.span_table.specs.Steps.{sort_wanted, text_wanted, count_after, held_of, is_read}
+
+-- The items of a production that were read, one by one, read the tokens from one place up to another, with these shapes.
+pub data Goes (g : Syntax) (words : List Word) (p : ℕ) (production : Production) : ℕ → ℕ → ℕ → List Shape → Type 0 where
+  begins : (from : ℕ) → Goes g words p production 0 from from []
+  passes : (count from at : ℕ) (shapes : List Shape) (text : List ℕ)
+      → Goes g words p production count from at shapes → text_wanted production count ≡ Some text → IsTerminalAt words at text
+      → Goes g words p production (count_after production count) from (at + 1) shapes
+  extends : (count from at past : ℕ) (shapes : List Shape) (sort : ℕ) (shape : Shape)
+      → Goes g words p production count from at shapes → sort_wanted production count ≡ Some sort → Child g words (Some (p, count)) sort at past shape
+      → Goes g words p production (count_after production count) from past (shapes ++ shape ∷ [])
+
+-- the first items of a production read a span
+pub record IsFrontRow (g : Syntax) (words : List Word) (from past p count : ℕ) (held : Held) (code : List Sign) : Type 0 where
+  pub production : Production
+  pub shapes : List Shape
+  pub is_there : production_at g.prods p ≡ Some production
+  pub read : is_read production ≡ true
+  pub goes : Goes g words p production count from past shapes
+  pub held_is : held ≡ held_of shapes
+  pub code_is : code ≡ codes_of shapes
+
+-- a production reads a span
+pub record IsWholeRow (g : Syntax) (words : List Word) (from past p : ℕ) (lone : Bool) (code : List Sign) : Type 0 where
+  pub shape : Shape
+  pub reads : Reads g words p from past shape
+  pub lone_is : lone ≡ is_lone shape
+  pub code_is : code ≡ code_of shape
+
+-- a span is a token that is a reading of its own sort
+pub record IsTokenRow (words : List Word) (from past own : ℕ) (code : List Sign) : Type 0 where
+  pub leaf : IsLeafAt words from own
+  pub past_is : past ≡ from + 1
+  pub code_is : code ≡ LeafSign from ∷ []
+
+abbrev pub Says : Syntax → List Word → ℕ → ℕ → Key → List Sign → Type 0
+Says g words from past (Front p count held) code = IsFrontRow g words from past p count held code
+Says g words from past (Whole p lone) code = IsWholeRow g words from past p lone code
+Says g words from past (Token own) code = IsTokenRow words from past own code
+
+-- each of some rows holds of a span
+abbrev pub AreSound : Syntax → List Word → ℕ → ℕ → List Row → Type 0
+AreSound g words from past rows = (made : Row) → Has rows made → Says g words from past made.key made.code
