@@ -1,0 +1,11 @@
+pub mod NameLists
+pub mod Searches
+pub mod Members
+pub mod Marking
+pub mod Mentions
+pub mod Around
+pub mod Stepping
+pub mod Following
+pub mod Reachings
+pub mod Turning
+pub mod Outcomes

@@ -1,0 +1,8 @@
+use Rattle.std.proofs.Common.{◌≡◌, drop}
+use Rattle.std.specs.List.{flat_map}
+use Rattle.sorted_grammar.specs.Naming.{first_that, sort_in}
+use Rattle.sorted_grammar.specs.Marks.{is_around}
+use Rattle.sorted_grammar.proofs.subsorts.first_in_items.Given as goal
+
+abbrev pub invariant-loop-item : goal.invariant-loop-item
+invariant-loop-item l = first_that (is_around l.names l.row) (flat_map sort_in l.items) ≡ first_that (is_around l.names l.row) (flat_map sort_in (drop l.item-index l.items))
