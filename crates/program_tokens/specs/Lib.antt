@@ -1,0 +1,5 @@
+pub mod Terminals
+pub mod Base
+pub mod Words
+pub mod Splits
+pub mod Laws
