@@ -1,0 +1,3 @@
+pub mod Valuing
+pub mod Twofold
+pub mod Determined

@@ -1,0 +1,3 @@
+pub mod Readings
+pub mod Programs
+pub mod Laws
