@@ -1,22 +1,22 @@
 -- What follows from the causes of the refusals.
-use Rattle.std.proofs.Common.{◌≡◌, ◌≢◌, ◌↔◌, ◌⊎◌, inl, inr, List, ℕ, Option, Some, None, IfSome, refl, ap, sym, subst, false}
+use Rattle.std.proofs.Common.{◌≡◌, ◌≢◌, ◌↔◌, ◌⊎◌, inl, inr, List, ℕ, Option, Some, None, IfSome, refl, ap, sym, subst, true, false}
 use Rattle.std.specs.Prelude.{IsSomeAnd}
 use Rattle.live_config.specs.declared.site.Fired.{Fired}
 use Rattle.live_config.specs.Live.{LiveState}
 use Rattle.krun.specs.declared.def_fault.DefFault.{DefFault}
-use Rattle.krun.specs.declared.outcome.ReadRefusal.{ReadRefusal}
-use Rattle.krun.specs.declared.outcome.ReadRefusal.TheVariants.{NoReading}
+use Rattle.program_reader.specs.declared.refusal.ReadRefusal.{ReadRefusal}
+use Rattle.program_reader.specs.declared.refusal.ReadRefusal.TheVariants.{NoReading}
 use Rattle.krun.specs.declared.outcome.Which.TheVariants.{Definition as TheDefinition, Program as TheProgram}
 use Rattle.krun.specs.declared.outcome.Outcome.{Outcome}
-use Rattle.krun.specs.declared.outcome.Outcome.TheVariants.{Final, Budget, Usage, Definition, Unbuilt, Program, ReadFault, Memory}
-use Rattle.krun.specs.Outcome.{status_of, run_word, wants_memory, IsReported}
+use Rattle.krun.specs.declared.outcome.Outcome.TheVariants.{Final, Budget, Shown, Usage, Definition, Unbuilt, Program, ReadFault, Memory}
+use Rattle.krun.specs.Outcome.{status_of, run_word, is_stop, wants_memory, IsReported}
 use Rattle.krun.specs.Refusals.{IsRefused, HasNoRefusal, IsOnlyRefusal}
 use Rattle.krun.specs.Headline.{IsRun, Took}
 use Rattle.krun.specs.Causes.{IsJob, IsOfSmallForm, IsDefinition, IsUnbuilt, IsProgram, IsWholeRun}
 
 -- the causes of a refusal
 pub record Refused (words : List (List ℕ)) (definition program : Option (List ℕ)) (definition_rose program_rose : Type 0) (o : Outcome) : Type 0 where
-  pub refused : run_word o ≡ None
+  pub refused : is_stop o ≡ true
   pub usage : (o ≡ Usage) ↔ (IsJob words → ⊥)
   pub definition_fault : o ≡ ReadFault TheDefinition → definition_rose
   pub of_definition : (fault : DefFault) → o ≡ Definition fault → IfSome definition (λ bytes. IsOnlyRefusal bytes fault)
@@ -29,6 +29,18 @@ pub record Refused (words : List (List ℕ)) (definition program : Option (List 
 pub none_holds : {A : Type 0} (o : Option A) (P : A → Type 0) → o ≡ None → IfSome o P
 none_holds None P is = tt
 none_holds (Some x) P is = cc
+
+-- what ended before its work was done has no word of a run
+pub stop_word : (o : Outcome) → is_stop o ≡ true → run_word o ≡ None
+stop_word Final stop = cc
+stop_word Budget stop = cc
+stop_word Shown stop = refl
+stop_word Usage stop = refl
+stop_word (Definition fault) stop = refl
+stop_word Unbuilt stop = refl
+stop_word (Program refusal) stop = refl
+stop_word (ReadFault which) stop = refl
+stop_word Memory stop = refl
 
 -- what is reported of a refusal has the causes that it has
 pub reported : (words : List (List ℕ)) (definition program : Option (List ℕ)) (definition_rose program_rose : Type 0) (o other : Outcome)
@@ -49,6 +61,7 @@ reported words definition program definition_rose program_rose (Definition fault
     })
 reported words definition program definition_rose program_rose Final other same h = subst (Refused words definition program definition_rose program_rose) (sym same) h
 reported words definition program definition_rose program_rose Budget other same h = subst (Refused words definition program definition_rose program_rose) (sym same) h
+reported words definition program definition_rose program_rose Shown other same h = subst (Refused words definition program definition_rose program_rose) (sym same) h
 reported words definition program definition_rose program_rose Usage other same h = subst (Refused words definition program definition_rose program_rose) (sym same) h
 reported words definition program definition_rose program_rose Unbuilt other same h = subst (Refused words definition program definition_rose program_rose) (sym same) h
 reported words definition program definition_rose program_rose (Program _) other same h = subst (Refused words definition program definition_rose program_rose) (sym same) h
@@ -68,6 +81,7 @@ module _ (words : List (List ℕ)) (bytes : List ℕ) (definition_rose program_r
   definition_alone program fault Memory h job is rose = inr refl
   definition_alone program fault Final h job is rose = cc
   definition_alone program fault Budget h job is rose = cc
+  definition_alone program fault Shown h job is rose = cc
 
   -- a file that nothing refuses and that is not of the small form is refused as such
   pub unbuilt_alone : (program : Option (List ℕ)) (o : Outcome) → Refused words (Some bytes) program definition_rose program_rose o → IsJob words
@@ -81,6 +95,7 @@ module _ (words : List (List ℕ)) (bytes : List ℕ) (definition_rose program_r
   unbuilt_alone program Memory h job accepted none rose = inr refl
   unbuilt_alone program Final h job accepted none rose = cc
   unbuilt_alone program Budget h job accepted none rose = cc
+  unbuilt_alone program Shown h job accepted none rose = cc
 
   -- a file that is no program of the definition is refused as such
   pub no_reading_alone : (text : List ℕ) (o : Outcome) → Refused words (Some bytes) (Some text) definition_rose program_rose o → IsJob words
@@ -94,6 +109,7 @@ module _ (words : List (List ℕ)) (bytes : List ℕ) (definition_rose program_r
   no_reading_alone text Memory h job read rose program_rose = inr refl
   no_reading_alone text Final h job read rose program_rose = cc
   no_reading_alone text Budget h job read rose program_rose = cc
+  no_reading_alone text Shown h job read rose program_rose = cc
 
   -- where both files are read, memory alone may be wanting
   pub memory_alone : (text : List ℕ) (o : Outcome) → Refused words (Some bytes) (Some text) definition_rose program_rose o → IsJob words

@@ -12,9 +12,9 @@ use Rattle.small_form.specs.Small.{IsSmall, IsSmallText, unplaced, language_of}
 use Rattle.small_form.specs.Program.{IsTermText}
 use Rattle.front_run.specs.Front.{one_cell, AreFrontRules}
 use Rattle.krun.specs.declared.outcome.Outcome.{Outcome}
-use Rattle.krun.specs.declared.outcome.Outcome.TheVariants.{Final, Budget, Usage, Definition, Unbuilt, Program, ReadFault, Memory}
-use Rattle.krun.specs.declared.outcome.ReadRefusal.{ReadRefusal}
-use Rattle.krun.specs.declared.outcome.ReadRefusal.TheVariants.{NoReading}
+use Rattle.krun.specs.declared.outcome.Outcome.TheVariants.{Final, Budget, Shown, Usage, Definition, Unbuilt, Program, ReadFault, Memory}
+use Rattle.program_reader.specs.declared.refusal.ReadRefusal.{ReadRefusal}
+use Rattle.program_reader.specs.declared.refusal.ReadRefusal.TheVariants.{NoReading}
 use Rattle.krun.specs.declared.top.Ran.{Ran}
 use Rattle.krun.specs.Outcome.{run_word}
 use Rattle.krun.specs.Refusals.{HasNoRefusal}
@@ -32,6 +32,7 @@ if_some_then (Some x) P Q f p = f x refl p
 other_is_final : (o : Outcome) (word : List ℕ) → run_word o ≡ Some word → (o ≡ Budget → ⊥) → o ≡ Final
 other_is_final Final word is not = refl
 other_is_final Budget word is not = absurd (not refl)
+other_is_final Shown word is not = cc
 other_is_final Usage word is not = cc
 other_is_final (Definition _) word is not = cc
 other_is_final Unbuilt word is not = cc
@@ -42,6 +43,7 @@ other_is_final Memory word is not = cc
 other_is_budget : (o : Outcome) (word : List ℕ) → run_word o ≡ Some word → (o ≡ Final → ⊥) → o ≡ Budget
 other_is_budget Final word is not = absurd (not refl)
 other_is_budget Budget word is not = refl
+other_is_budget Shown word is not = cc
 other_is_budget Usage word is not = cc
 other_is_budget (Definition _) word is not = cc
 other_is_budget Unbuilt word is not = cc

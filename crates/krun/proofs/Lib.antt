@@ -1,3 +1,5 @@
 mod Headlines
 pub mod Fronts
 mod Causes
+mod Asking
+mod Kasting

@@ -12,10 +12,14 @@ use Rattle.krun.specs.declared.outcome.Outcome.TheVariants.{Definition, Unbuilt,
 use Rattle.krun.specs.Refusals.{HasNoRefusal, IsOnlyRefusal}
 use Rattle.krun.specs.Headline.{word_at, IsRun, Took}
 
--- the words are a job: the program's name, `run`, and the names of two files
-pub record IsJob (words : List (List ℕ)) : Type 0 where
+-- the words ask for a mode: the program's name, the mode, and the names of two files
+pub record AskFor (words : List (List ℕ)) (mode : List ℕ) : Type 0 where
   pub four : length words ≡ 4
-  pub mode : word_at words 1 ≡ codes "run"
+  pub mode_is : word_at words 1 ≡ mode
+
+-- the words are a job: they ask for `run`
+abbrev pub IsJob : List (List ℕ) → Type 0
+IsJob words = AskFor words (codes "run")
 
 -- the bytes are of the small form
 abbrev pub IsOfSmallForm : List ℕ → Type 0

@@ -3,3 +3,4 @@ pub mod Outcome
 pub mod Refusals
 pub mod Headline
 pub mod Causes
+pub mod Kast

@@ -3,14 +3,17 @@ use Rattle.std.specs.Prelude.{◌≡◌, ◌⊎◌, ℕ, Bool, true, false, List
 use Rattle.k_lexer.specs.declared.fault.LexFault.TheVariants.{Memory as LexMemory}
 use Rattle.module_reader.specs.declared.fault.ModuleFault.TheVariants.{Memory as ModuleMemory}
 use Rattle.krun.specs.declared.def_fault.DefFault.{DefFault}
-use Rattle.krun.specs.declared.def_fault.DefFault.TheVariants.{Lex, Module, Memory as DefMemory}
+use Rattle.krun.specs.declared.def_fault.DefFault.TheVariants.{Lex, Module, Sort, Memory as DefMemory}
+use Rattle.sorted_grammar.specs.declared.fault.SortFault.TheVariants.{Memory as SortMemory}
+use Rattle.program_reader.specs.declared.refusal.ReadRefusal.TheVariants.{NoReading}
 use Rattle.krun.specs.declared.outcome.Outcome.{Outcome}
-use Rattle.krun.specs.declared.outcome.Outcome.TheVariants.{Final, Budget, Usage, Definition, Unbuilt, Program, ReadFault, Memory}
+use Rattle.krun.specs.declared.outcome.Outcome.TheVariants.{Final, Budget, Shown, Usage, Definition, Unbuilt, Program, ReadFault, Memory}
 use Rattle.krun.specs.Lines.{line_end, fault_line}
 
 abbrev pub status_of : Outcome → ℕ
 status_of Final = 0
 status_of Budget = 1
+status_of Shown = 0
 status_of Usage = 2
 status_of (Definition _) = 3
 status_of Unbuilt = 3
@@ -18,12 +21,12 @@ status_of (Program _) = 4
 status_of (ReadFault _) = 5
 status_of Memory = 7
 
--- what a refusal writes; a run has a text of its own
+-- what a refusal writes; a run has a text of its own, and so has what is shown and a program that is refused otherwise
 abbrev pub text_of : Outcome → List ℕ
 text_of Usage = codes "usage: krun MODE DEF [PGM] [TRACE] [--depth N] [--workers N] [--in LIST] [--trace | --waves | --cover]" ++ line_end
 text_of (Definition fault) = fault_line fault
 text_of Unbuilt = codes "definition 29 Unbuilt" ++ line_end
-text_of (Program _) = codes "program 13 NoReading at=0" ++ line_end
+text_of (Program (NoReading _)) = codes "program 13 NoReading at=0" ++ line_end
 text_of _ = []
 
 -- the outcome refuses no definition by a fault of it, so that its text is always the same
@@ -37,11 +40,19 @@ run_word Final = Some (codes "Final")
 run_word Budget = Some (codes "Budget")
 run_word _ = None
 
+-- the call ended before its work was done
+abbrev pub is_stop : Outcome → Bool
+is_stop Final = false
+is_stop Budget = false
+is_stop Shown = false
+is_stop _ = true
+
 -- memory was wanting, and nothing is wrong with the definition
 abbrev pub wants_memory : DefFault → Bool
 wants_memory DefMemory = true
 wants_memory (Lex LexMemory) = true
 wants_memory (Module ModuleMemory) = true
+wants_memory (Sort SortMemory) = true
 wants_memory _ = false
 
 -- the outcome of a call whose definition has this fault
@@ -53,3 +64,9 @@ outcome_of fault = Definition fault
 abbrev pub IsReported : Outcome → Outcome → Type 0
 IsReported (Definition fault) reported = (reported ≡ Definition fault) ⊎ (reported ≡ Memory)
 IsReported refusal reported = reported ≡ refusal
+
+-- the outcome answers with a text that depends on the definition's words: what is shown, or a refused program
+abbrev pub is_answer : Outcome → Bool
+is_answer Shown = true
+is_answer (Program _) = true
+is_answer _ = false

@@ -5,18 +5,19 @@ use Rattle.k_lexer.specs.declared.fault.LexFault.{LexFault}
 use Rattle.k_lexer.specs.Lexing.{AreTokens, IsFault as IsLexFault}
 use Rattle.module_reader.specs.Faults.{IsFault as IsModuleFault}
 use Rattle.krun.specs.declared.def_fault.DefFault.{DefFault}
-use Rattle.krun.specs.declared.def_fault.DefFault.TheVariants.{TooBig, Lex, Module, Memory}
+use Rattle.krun.specs.declared.def_fault.DefFault.TheVariants.{TooBig, Lex, Module, Sort, Memory}
 
 -- the greatest length of a definition, in bytes
 abbrev pub def_limit : ℕ
 def_limit = 1048576
 
--- The bytes are refused as a definition with this fault: they are too many; or they have no tokens; or their tokens are no
+-- The bytes are refused as a definition, before its grammar is looked at, with this fault: they are too many; or they have no tokens; or their tokens are no
 -- modules that can be put together.
 abbrev pub IsRefused : List ℕ → DefFault → Type 0
 IsRefused bytes (TooBig limit) = (def_limit < length bytes) × (limit ≡ def_limit)
 IsRefused bytes (Lex fault) = (length bytes ≤ def_limit) × IsLexFault bytes fault
 IsRefused bytes (Module fault) = (length bytes ≤ def_limit) × ((tokens : List Token) × AreTokens bytes tokens × IsModuleFault bytes tokens fault)
+IsRefused bytes (Sort fault) = ⊥
 IsRefused bytes Memory = ⊥
 
 -- nothing refuses the bytes

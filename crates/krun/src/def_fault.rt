@@ -1,10 +1,11 @@
 ghost use Rattle.std.specs.Prelude.{◌≡◌, ◌++◌, IfOk};
 ghost use Rattle.std.specs.Fmt.{decimal};
-ghost use Rattle.krun.specs.Lines.{line_end, lex_line, module_line, fault_line};
+ghost use Rattle.krun.specs.Lines.{line_end, lex_line, module_line, sort_line, what_word, fault_line};
 
 use k_lexer::LexFault;
 use k_terms::Memory;
 use module_reader::ModuleFault;
+use sorted_grammar::{SortFault, What};
 use std::alloc::Global;
 
 /// Why a definition was refused, in the order in which it is tried.
@@ -16,6 +17,8 @@ pub enum DefFault {
     Lex(LexFault),
     /// Its tokens are no modules that can be put together.
     Module(ModuleFault),
+    /// Its sentences have no grammar.
+    Sort(SortFault),
     /// Memory was wanting.
     Memory,
 }
@@ -31,6 +34,7 @@ impl DefFault {
             }
             DefFault::Lex(fault) => line_of_lex_fault(alloc, *fault),
             DefFault::Module(fault) => line_of_module_fault(alloc, fault),
+            DefFault::Sort(fault) => line_of_sort_fault(alloc, fault),
             DefFault::Memory => Ok(Vec::new(alloc)),
         }
     }
@@ -73,8 +77,46 @@ fn line_of_module_fault(alloc: Global, fault: &ModuleFault) -> Result<Vec<u8>, M
     }
 }
 
+/// The words for what there are too many of.
+fn word_of_what(what: What) -> &'static str
+    ensures { result.now ≡ what_word what }
+{
+    match what {
+        What::Sorts => "sorts",
+        What::Productions => "productions",
+        What::Rules => "rules",
+        What::Cells => "cells",
+        What::RuleTokens => "rule tokens",
+        What::PatternCells => "pattern cells",
+        What::NewCells => "new cells",
+    }
+}
+
+/// The line of a fault of the sorts and productions.
+fn line_of_sort_fault(alloc: Global, fault: &SortFault) -> Result<Vec<u8>, Memory>
+    ensures { IfOk result (λ line. line.items ≡ sort_line fault.now) }
+{
+    match fault {
+        SortFault::TooMany { what, n } => {
+            let word = word_of_what(*what);
+            let line = format!(in alloc; "definition 11 TooMany what={word} n={n}\n")?;
+            Ok(Vec::from_slice(alloc, line.as_bytes())?)
+        }
+        SortFault::NoSort { name } => {
+            named_line(alloc, "definition 8 NoSort name=", name.as_slice())
+        }
+        SortFault::SubsortCycle { sort } => {
+            named_line(alloc, "definition 9 SubsortCycle sort=", sort.as_slice())
+        }
+        SortFault::CyclicProduction { prod } => {
+            numbered_line(alloc, "definition 10 CyclicProduction prod=", *prod as u64)
+        }
+        SortFault::Memory => Ok(Vec::new(alloc)),
+    }
+}
+
 /// A line of a text and a number.
-fn numbered_line(alloc: Global, text: &str, number: u64) -> Result<Vec<u8>, Memory>
+pub fn numbered_line(alloc: Global, text: &str, number: u64) -> Result<Vec<u8>, Memory>
     ensures { IfOk result (λ line. line.items ≡ text.now ++ decimal number ++ line_end) }
 {
     let line = format!(in alloc; "{text}{number}\n")?;

@@ -1,14 +1,15 @@
 // The reading of a definition's file, phase by phase.
-ghost use Rattle.std.specs.Prelude.{◌≡◌, ◌≢◌, ◌≤◌, List, ℕ, None, length, false, IfSome, IfOk, IfErr};
+ghost use Rattle.std.specs.Prelude.{◌≡◌, ◌≢◌, ◌<◌, ◌≤◌, List, ℕ, None, length, true, false, IfSome, IfOk, IfErr};
 ghost use Rattle.small_form.specs.declared.small.Small.{Small as Definition};
 ghost use Rattle.small_form.specs.Small.{IsSmall, IsSmallText, HaveLabels, unplaced};
-ghost use Rattle.krun.specs.Outcome.{run_word, wants_memory};
+ghost use Rattle.krun.specs.Outcome.{is_stop, wants_memory};
 ghost use Rattle.krun.specs.Refusals.{HasNoRefusal, IsOnlyRefusal, AreLexed, IsSaid};
 ghost use Rattle.krun.specs.Causes.{IsUnbuilt, IsCauseOf};
 ghost use Rattle.k_edge.specs.Faults.{Rose};
 ghost use Rattle.module_reader.specs.Modules.{IsModules};
 ghost use Rattle.krun.specs.declared.def_fault.DefFault.{DefFault as Fault};
-ghost use Rattle.krun.specs.declared.outcome.ReadRefusal.{ReadRefusal};
+ghost use Rattle.krun.specs.declared.def_fault.DefFault.TheVariants.{TooBig};
+ghost use Rattle.program_reader.specs.declared.refusal.ReadRefusal.{ReadRefusal};
 ghost use Rattle.krun.specs.declared.outcome.Outcome.TheVariants.{Usage as WantOfWords, Definition as DefinitionRefused, Unbuilt as NotOfSmallForm, Program as ProgramRefused, ReadFault as FaultOf};
 ghost use Rattle.krun.specs.declared.outcome.Which.TheVariants.{Definition as TheDefinition, Program as TheProgram};
 
@@ -25,15 +26,21 @@ use std::alloc::Global;
 const DEFINITION_LIMIT: usize = 1_048_576;
 
 /// The bytes of a definition's file, which are not too many.
-fn definition_bytes<H: Shelf>(alloc: Global, shelf: &mut H, name: &str) -> Result<Vec<u8>, Outcome>
+pub(crate) fn definition_bytes<H: Shelf>(
+    alloc: Global,
+    shelf: &mut H,
+    name: &str,
+) -> Result<Vec<u8>, Outcome>
     ensures kept { (other : List ℕ) → H.told shelf.new other ≡ H.told shelf.old other }
     ensures whole { IfSome (H.told shelf.old name.now) (λ file. IfOk result (λ bytes. bytes.items ≡ file)) }
     ensures within { IfOk result (λ bytes. length bytes.items ≤ 1048576) }
     ensures definition { (fault : Fault) → IfErr result (λ refusal. refusal ≡ DefinitionRefused fault →
         IfSome (H.told shelf.old name.now) (λ file. IsOnlyRefusal file fault)) }
+    ensures too_big { (fault : Fault) → IfErr result (λ refusal. refusal ≡ DefinitionRefused fault →
+        IfSome (H.told shelf.old name.now) (λ file. (fault ≡ TooBig 1048576) × (1048576 < length file))) }
     ensures never_memory { (fault : Fault) → IfErr result (λ refusal. refusal ≡ DefinitionRefused fault → wants_memory fault ≡ false) }
     ensures small_form { IfErr result (λ refusal. refusal ≢ NotOfSmallForm) }
-    ensures refused { IfErr result (λ refusal. run_word refusal ≡ None) }
+    ensures refused { IfErr result (λ refusal. is_stop refusal ≡ true) }
     ensures words { IfErr result (λ refusal. refusal ≢ WantOfWords) }
     ensures later { (other : List ℕ) → H.faults shelf.old other ≤ H.faults shelf.new other }
     ensures only { IfErr result (λ refusal. refusal ≢ FaultOf TheProgram) }
@@ -127,7 +134,7 @@ pub fn definition_at<H: Shelf>(alloc: Global, shelf: &mut H, name: &str) -> Resu
         IfSome (H.told shelf.old name.now) (λ file. IsOnlyRefusal file fault)) }
     ensures never_memory { (fault : Fault) → IfErr result (λ refusal. refusal ≡ DefinitionRefused fault → wants_memory fault ≡ false) }
     ensures unbuilt { IfErr result (λ refusal. refusal ≡ NotOfSmallForm → IfSome (H.told shelf.old name.now) IsUnbuilt) }
-    ensures refused { IfErr result (λ refusal. run_word refusal ≡ None) }
+    ensures refused { IfErr result (λ refusal. is_stop refusal ≡ true) }
     ensures words { IfErr result (λ refusal. refusal ≢ WantOfWords) }
     ensures later { (other : List ℕ) → H.faults shelf.old other ≤ H.faults shelf.new other }
     ensures only { IfErr result (λ refusal. refusal ≢ FaultOf TheProgram) }

@@ -1,5 +1,5 @@
-ghost use Rattle.std.specs.Prelude.{◌≡◌, ◌≢◌, ◌<◌, ◌≤◌, ◌⊎◌, List, ℕ, None, length, IfSome, IfOk, IfErr};
-ghost use Rattle.krun.specs.Outcome.{run_word};
+ghost use Rattle.std.specs.Prelude.{◌≡◌, ◌≢◌, ◌<◌, ◌≤◌, ◌⊎◌, List, ℕ, None, length, true, IfSome, IfOk, IfErr};
+ghost use Rattle.krun.specs.Outcome.{is_stop};
 ghost use Rattle.krun.specs.declared.outcome.Outcome.TheVariants.{Usage as WantOfWords, Memory as WantOfMemory, ReadFault as FaultOf};
 ghost use Rattle.k_edge.specs.Faults.{Rose};
 
@@ -21,7 +21,7 @@ pub fn file_bytes<H: Shelf>(
         IfOk result (λ bytes. length bytes.items ≤ limit → bytes.items ≡ file)) }
     ensures all { IfSome (H.told shelf.old name.now) (λ file.
         IfOk result (λ bytes. length file ≤ limit → bytes.items ≡ file)) }
-    ensures refused { IfErr result (λ refusal. run_word refusal ≡ None) }
+    ensures refused { IfErr result (λ refusal. is_stop refusal ≡ true) }
     ensures words { IfErr result (λ refusal. refusal ≢ WantOfWords) }
     ensures later { (other : List ℕ) → H.faults shelf.old other ≤ H.faults shelf.new other }
     ensures only { IfErr result (λ refusal. (refusal ≡ WantOfMemory) ⊎ (refusal ≡ FaultOf which)) }

@@ -1,6 +1,8 @@
-ghost use Rattle.std.specs.Prelude.{◌≡◌, map, string_bytes, IfSome, IfNone};
+ghost use Rattle.std.specs.Prelude.{map, string_bytes, IfSome, IfNone};
+ghost use Rattle.std.specs.Prelude.{◌≡◌};
 ghost use Rattle.krun.specs.Headline.{word_at};
-ghost use Rattle.krun.specs.Causes.{IsJob};
+ghost use Rattle.krun.specs.Causes.{AskFor, IsJob};
+ghost use Rattle.krun.specs.Kast.{IsKast};
 
 /// The names of the two files of a job.
 #[derive(Clone, Copy)]
@@ -9,22 +11,41 @@ pub struct Job<'a> {
     pub program: &'a str,
 }
 
-/// The job that the words of the command line give: the program's name, `run`, and the names of a definition and of a
-/// program.
-pub fn job_of(words: &[String]) -> Option<Job<'_>>
-    ensures job { IfSome result (λ _. IsJob (map string_bytes words.now)) }
-    ensures none { IfNone result (IsJob (map string_bytes words.now) → ⊥) }
+/// The files of words that ask for a mode: the program's name, the mode, and the names of a definition and of a program.
+fn files_of<'a>(words: &'a [String], wanted: &str) -> Option<Job<'a>>
+    ensures job { IfSome result (λ _. AskFor (map string_bytes words.now) wanted.now) }
+    ensures none { IfNone result (AskFor (map string_bytes words.now) wanted.now → ⊥) }
     ensures definition { IfSome result (λ job. job.definition.now ≡ word_at (map string_bytes words.now) 2) }
     ensures program { IfSome result (λ job. job.program.now ≡ word_at (map string_bytes words.now) 3) }
 {
     let [_, mode, definition, program] = words else {
         return None;
     };
-    if mode.as_str() == "run" {
+    if mode.as_str() == wanted {
         return Some(Job {
             definition: definition.as_str(),
             program: program.as_str(),
         });
     }
     None
+}
+
+/// The files of the words that ask for a run.
+pub fn job_of(words: &[String]) -> Option<Job<'_>>
+    ensures job { IfSome result (λ _. IsJob (map string_bytes words.now)) }
+    ensures none { IfNone result (IsJob (map string_bytes words.now) → ⊥) }
+    ensures definition { IfSome result (λ job. job.definition.now ≡ word_at (map string_bytes words.now) 2) }
+    ensures program { IfSome result (λ job. job.program.now ≡ word_at (map string_bytes words.now) 3) }
+{
+    files_of(words, "run")
+}
+
+/// The files of the words that ask for the term of a program.
+pub fn kast_of(words: &[String]) -> Option<Job<'_>>
+    ensures job { IfSome result (λ _. IsKast (map string_bytes words.now)) }
+    ensures none { IfNone result (IsKast (map string_bytes words.now) → ⊥) }
+    ensures definition { IfSome result (λ job. job.definition.now ≡ word_at (map string_bytes words.now) 2) }
+    ensures program { IfSome result (λ job. job.program.now ≡ word_at (map string_bytes words.now) 3) }
+{
+    files_of(words, "kast")
 }

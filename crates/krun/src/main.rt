@@ -1,11 +1,13 @@
 //! krun reads a definition of a language and a program, rewrites the program by the definition's rules, and prints how
-//! many fired and the configuration reached.
+//! many fired and the configuration reached, or prints the term that the program is read as.
 #![tactic(auto)]
 
+mod alone;
 mod def_fault;
 mod definition;
 mod file;
 mod job;
+mod kast;
 mod outcome;
 mod outside;
 mod report;
@@ -14,13 +16,13 @@ mod tests;
 mod texts;
 mod top;
 
+use alone::krun_alone;
 use outcome::Outcome;
 use outside::{FileShelf, StdSink};
 use report::Report;
 use std::alloc::Global;
 use std::process::ExitCode;
 use std::{env, io};
-use top::krun_alone;
 
 fn words(rt: &HostRuntime) -> io::Result<Vec<String>> {
     let mut words = Vec::new(rt.alloc());

@@ -4,18 +4,13 @@ ghost use Rattle.krun.specs.declared.outcome.Outcome.TheVariants.{Memory as Want
 
 use crate::def_fault::DefFault;
 use k_terms::Memory;
+use program_reader::ReadRefusal;
 
 /// A file that is read.
 #[derive(Clone, Copy, Debug, PartialEq, Eq)]
 pub enum Which {
     Definition,
     Program,
-}
-
-/// Why a program was refused: it has no reading, at this byte.
-#[derive(Clone, Copy, Debug, PartialEq, Eq)]
-pub enum ReadRefusal {
-    NoReading { at: usize },
 }
 
 /// How a call of the program ended.
@@ -25,6 +20,8 @@ pub enum Outcome {
     Final,
     /// The budget is used up, and a rule still matches.
     Budget,
+    /// What was asked for is shown.
+    Shown,
     /// The words are no job.
     Usage,
     /// The definition was refused. The fault is never want of memory, which is an outcome of its own.
@@ -72,6 +69,7 @@ impl Outcome {
         match self {
             Outcome::Final => 0,
             Outcome::Budget => 1,
+            Outcome::Shown => 0,
             Outcome::Usage => 2,
             Outcome::Definition(_) => 3,
             Outcome::Unbuilt => 3,
@@ -81,8 +79,8 @@ impl Outcome {
         }
     }
 
-    /// The line that a refusal writes which is no fault of a definition. A run writes its own text, and a fault of reading
-    /// and want of memory write none.
+    /// The line that a refusal writes which is no fault of a definition, and of a program only where a run refuses it. A run and
+    /// what is shown have a text of their own, and a fault of reading and want of memory have none.
     pub fn fixed_line(&self) -> &'static [u8]
         requires { HasFixedText self.now }
         ensures { result.now ≡ text_of self.now }

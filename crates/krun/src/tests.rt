@@ -1,7 +1,8 @@
-use crate::outcome::{Outcome, ReadRefusal, Which};
+use crate::alone::krun_alone;
+use crate::outcome::{Outcome, Which};
 use crate::report::Report;
-use crate::top::krun_alone;
 use k_edge::{MemShelf, MemSink, SureShelf, SureSink};
+use program_reader::ReadRefusal;
 use std::alloc::{AllocError, Global};
 use std::test::Fail;
 
@@ -15,6 +16,26 @@ endmodule
 
 const LOOPING: &str =
     "module L syntax A ::= a() configuration <k> $PGM:A </k> rule a() => a() endmodule";
+
+const MINUS: &str = "module E syntax E ::= Int | E \"-\" E configuration <k> $PGM:E </k> endmodule";
+
+const MINUS_LEFT: &str =
+    "module E syntax E ::= Int | E \"-\" E [left] configuration <k> $PGM:E </k> endmodule";
+
+const NOTS: &str = "module A syntax A ::= \"z\" | \"!\" K configuration <k> $PGM:A </k> endmodule";
+
+const STATEMENTS: &str = "module IMP
+  syntax AExp ::= Int | Id | \"-\" Int
+                | AExp \"/\" AExp [left, strict]
+                > AExp \"+\" AExp [left, strict]
+                | \"(\" AExp \")\" [bracket]
+  syntax Stmt ::= Id \"=\" AExp \";\" [strict(2)]
+                > Stmt Stmt [left]
+  syntax Pgm  ::= \"int\" Ids \";\" Stmt
+  syntax Ids  ::= List{Id,\",\"}
+  configuration <k> $PGM:Pgm </k>
+endmodule
+";
 
 const TWO_SORTS: &str = "module IMP
   syntax AExp ::= Int | Id | AExp \"+\" AExp [left, strict]
@@ -209,7 +230,7 @@ fn refuses_other_words(rt: HostRuntime) -> Result<(), Fail> {
     for line in [
         "krun",
         "krun run d.k",
-        "krun kast d.k p",
+        "krun rules d.k p",
         "krun run d.k p more",
     ] {
         let (report, sink) = report_of(
@@ -276,5 +297,136 @@ fn runs_over_a_shelf_and_a_sink_that_never_fail(rt: HostRuntime) -> Result<(), F
     let report = krun_alone(rt.alloc(), words.as_slice(), &mut shelf, &mut sink);
     assert_eq!(rt; report.outcome, Outcome::Final);
     assert_eq!(rt; report.fired.len(), 2);
+    Ok(())
+}
+
+#[test]
+fn shows_terms(rt: HostRuntime) -> Result<(), Fail> {
+    let terms: [(&str, &str, &str, u8); 16] = [
+        (
+            MINUS,
+            "1 - 2 - 3",
+            "program 14 Ambiguous first=_-_(1,_-_(2,3)) second=_-_(_-_(1,2),3)\n",
+            4,
+        ),
+        (MINUS_LEFT, "1 - 2 - 3", "_-_(_-_(1,2),3)\n", 0),
+        (MINUS_LEFT, "", "program 13 NoReading at=0\n", 4),
+        (MINUS_LEFT, "1 $", "program 12 BadToken at=2\n", 4),
+        (
+            MINUS_LEFT,
+            "1 - 170141183460469231731687303715884105728",
+            "program 16 WideNumber at=4\n",
+            4,
+        ),
+        (NOTS, "! ! z", "!_((!_((z()))))\n", 0),
+        (
+            STATEMENTS,
+            "int x; x = (1 + 2) / 3;",
+            "int_;_(.Ids[x],_=_;(x,_/_(_+_(1,2),3)))\n",
+            0,
+        ),
+        (
+            "module A syntax B ::= C syntax C ::= B endmodule",
+            "z",
+            "definition 9 SubsortCycle sort=B\n",
+            3,
+        ),
+        (
+            "module A syntax B ::= f(C) endmodule",
+            "z",
+            "definition 8 NoSort name=C\n",
+            3,
+        ),
+        (
+            "module A syntax B ::= B C syntax C ::= List{B,\",\"} endmodule",
+            "z",
+            "definition 10 CyclicProduction prod=1\n",
+            3,
+        ),
+        (
+            "module A syntax L ::= List{M,\"\"} syntax M ::= List{Int,\",\"} endmodule",
+            "z",
+            "definition 10 CyclicProduction prod=1\n",
+            3,
+        ),
+        (
+            "module A syntax A ::= KItem L syntax L ::= List{Int,\",\"} endmodule",
+            "z",
+            "definition 10 CyclicProduction prod=1\n",
+            3,
+        ),
+        (
+            "module A syntax A ::= K L syntax L ::= List{Int,\",\"} endmodule",
+            "z",
+            "definition 10 CyclicProduction prod=1\n",
+            3,
+        ),
+        (
+            "module A syntax N ::= L L syntax L ::= List{Int,\",\"} syntax A ::= N A endmodule",
+            "z",
+            "definition 10 CyclicProduction prod=3\n",
+            3,
+        ),
+        (
+            "module A syntax B ::= \"true\" endmodule",
+            "true",
+            "definition 4 Expected at=22\n",
+            3,
+        ),
+        (
+            "module A syntax B ::= \"b\" endmodule",
+            "b",
+            "definition 29 Unbuilt\n",
+            3,
+        ),
+    ];
+    for (definition, program, text, status) in terms {
+        let (report, sink) = report_of(
+            rt.alloc(),
+            "krun kast d.k p",
+            definition.as_bytes(),
+            program,
+            Vec::new(rt.alloc()),
+        )?;
+        assert_eq!(rt; sink.bytes(), text.as_bytes(), "{program}");
+        assert_eq!(rt; report.status, status, "{program}");
+    }
+    Ok(())
+}
+
+/// A text so many times, and then another one.
+fn repeated(alloc: Global, text: &str, count: usize, last: &str) -> Result<String, AllocError> {
+    let mut all = String::new(alloc);
+    for _ in 0..count {
+        all.push_str(text)?;
+    }
+    all.push_str(last)?;
+    Ok(all)
+}
+
+#[test]
+fn refuses_terms_past_the_limits(rt: HostRuntime) -> Result<(), Fail> {
+    let limits: [(&str, &str, usize, &str, &str); 2] = [
+        (
+            MINUS_LEFT,
+            "1 - ",
+            128,
+            "1",
+            "program 15 TooLong tokens=257\n",
+        ),
+        (NOTS, "! ", 200, "z", "program 28 TooDeep depth=401\n"),
+    ];
+    for (definition, part, count, last, text) in limits {
+        let program = repeated(rt.alloc(), part, count, last)?;
+        let (report, sink) = report_of(
+            rt.alloc(),
+            "krun kast d.k p",
+            definition.as_bytes(),
+            program.as_str(),
+            Vec::new(rt.alloc()),
+        )?;
+        assert_eq!(rt; sink.bytes(), text.as_bytes(), "{text}");
+        assert_eq!(rt; report.status, 4, "{text}");
+    }
     Ok(())
 }

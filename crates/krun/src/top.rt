@@ -1,8 +1,8 @@
-ghost use Rattle.std.specs.Prelude.{◌≡◌, ◌≢◌, ◌↔◌, ◌<◌, ◌≤◌, ◌⊎◌, ◌∷◌, [], List, ℕ, Some, None, map, string_bytes, length, false, IfSome, IfOk, IfErr};
+ghost use Rattle.std.specs.Prelude.{◌≡◌, ◌≢◌, ◌↔◌, ◌<◌, ◌≤◌, ◌⊎◌, ◌∷◌, [], List, ℕ, Some, None, map, string_bytes, length, true, false, IfSome, IfOk, IfErr};
 ghost use Rattle.small_form.specs.declared.small.Small.{Small as Definition};
 ghost use Rattle.small_form.specs.Small.{IsSmall, IsSmallText, HaveLabels, unplaced, language_of};
 ghost use Rattle.small_form.specs.Program.{IsTermText};
-ghost use Rattle.krun.specs.Outcome.{status_of, text_of, run_word, wants_memory, HasFixedText, IsReported};
+ghost use Rattle.krun.specs.Outcome.{status_of, text_of, run_word, is_stop, wants_memory, HasFixedText, IsReported};
 ghost use Rattle.krun.specs.Refusals.{IsRefused, HasNoRefusal, IsOnlyRefusal};
 ghost use Rattle.krun.specs.Headline.{word_at, caller_fired, run_text as text_of_run, IsRun, Took};
 ghost use Rattle.krun.specs.Causes.{IsJob, IsDefinition, IsUnbuilt, IsOfSmallForm, IsProgram, IsWholeRun};
@@ -10,8 +10,8 @@ ghost use Rattle.k_terms.specs.declared.value.Value.{Value as Val};
 ghost use Rattle.rule_terms.specs.Rewriting.{IsStuck};
 ghost use Rattle.live_config.specs.Configuration.{plain};
 ghost use Rattle.krun.specs.declared.def_fault.DefFault.{DefFault as Fault};
-ghost use Rattle.krun.specs.declared.outcome.Outcome.TheVariants.{Usage as WantOfWords, Definition as DefinitionRefused, Unbuilt as NotOfSmallForm, Program as ProgramRefused, Memory as WantOfMemory, ReadFault as FaultOf, Final as OfFinal, Budget as OfBudget};
-ghost use Rattle.krun.specs.declared.outcome.ReadRefusal.TheVariants.{NoReading};
+ghost use Rattle.krun.specs.declared.outcome.Outcome.TheVariants.{Usage as WantOfWords, Definition as DefinitionRefused, Unbuilt as NotOfSmallForm, Program as ProgramRefused, Memory as WantOfMemory, ReadFault as FaultOf, Final as OfFinal, Budget as OfBudget, Shown as WasShown};
+ghost use Rattle.program_reader.specs.declared.refusal.ReadRefusal.TheVariants.{NoReading};
 ghost use Rattle.krun.specs.declared.outcome.Which.TheVariants.{Definition as TheDefinition, Program as TheProgram};
 ghost use Rattle.k_edge.specs.Faults.{Rose};
 ghost use Rattle.whole_files.specs.Writing.{AppendsFront};
@@ -24,13 +24,14 @@ use crate::def_fault::DefFault;
 use crate::definition::definition_at;
 use crate::file::file_bytes;
 use crate::job::job_of;
-use crate::outcome::{Outcome, ReadRefusal, WRITE_FAULT, Which};
+use crate::outcome::{Outcome, WRITE_FAULT, Which};
 use crate::report::Report;
 use crate::texts::run_text;
 use front_run::{Ending, run_program};
 use k_edge::{Shelf, Sink};
 use k_terms::{Many, Memory, Numbers, Value};
 use live_config::{Fired, Live};
+use program_reader::ReadRefusal;
 use rule_terms::Defs;
 use small_form::{Small, language, read_program};
 use std::alloc::Global;
@@ -67,7 +68,7 @@ fn program_at<H: Shelf>(
     ensures no_reading { HaveLabels small.now.productions → (cause : ReadRefusal) →
         IfErr result (λ refusal. refusal ≡ ProgramRefused cause → (cause ≡ NoReading 0) ×
         IfSome (H.told shelf.old name.now) (λ file. (v : Val) → IsTermText small.now.productions file v → ⊥)) }
-    ensures refused { IfErr result (λ refusal. run_word refusal ≡ None) }
+    ensures refused { IfErr result (λ refusal. is_stop refusal ≡ true) }
     ensures words { IfErr result (λ refusal. refusal ≢ WantOfWords) }
     ensures later { (other : List ℕ) → H.faults shelf.old other ≤ H.faults shelf.new other }
     ensures only { IfErr result (λ refusal. refusal ≢ FaultOf TheDefinition) }
@@ -114,7 +115,7 @@ fn run_of(alloc: Global, defs: &Defs, program: Value) -> Result<Ran, Outcome>
     ensures text { IfOk result (λ ran. IfSome (run_word ran.outcome) (λ word.
         ran.text.items ≡ text_of_run word defs.now ran.fired ran.end.now)) }
     ensures ended { IfOk result (λ ran. run_word ran.outcome ≢ None) }
-    ensures refused { IfErr result (λ refusal. run_word refusal ≡ None) }
+    ensures refused { IfErr result (λ refusal. is_stop refusal ≡ true) }
     ensures words { IfErr result (λ refusal. refusal ≢ WantOfWords) }
     ensures only { IfErr result (λ refusal. refusal ≡ WantOfMemory) }
     ensures used_up { IfOk result (λ ran. ran.outcome ≡ OfBudget → length ran.fired ≡ 100000) }
@@ -139,7 +140,7 @@ fn run_job<H: Shelf>(alloc: Global, shelf: &mut H, words: &[String]) -> Result<R
         IsRun (H.told shelf.old (word_at (map string_bytes words.now) 2)) (H.told shelf.old (word_at (map string_bytes words.now) 3))
         ran.outcome word ran.fired (Some ran.end) ran.text.items)) }
     ensures ended { IfOk result (λ ran. run_word ran.outcome ≢ None) }
-    ensures refused { IfErr result (λ refusal. run_word refusal ≡ None) }
+    ensures refused { IfErr result (λ refusal. is_stop refusal ≡ true) }
     ensures words { IfErr result (λ refusal. (refusal ≡ WantOfWords) ↔ (IsJob (map string_bytes words.now) → ⊥)) }
     ensures job { IfOk result (λ _. IsJob (map string_bytes words.now)) }
     ensures definition_fault { IfErr result (λ refusal. refusal ≡ FaultOf TheDefinition →
@@ -167,7 +168,7 @@ fn run_job<H: Shelf>(alloc: Global, shelf: &mut H, words: &[String]) -> Result<R
 }
 
 /// Writes a text, and gives the exit status: that of the outcome, or the one of a failed write.
-fn status_after<O: Sink>(out: &mut O, text: &[u8], outcome: &Outcome) -> u8
+pub(crate) fn status_after<O: Sink>(out: &mut O, text: &[u8], outcome: &Outcome) -> u8
     ensures status { (result ≡ 6) ⊎ (result ≡ status_of outcome.now) }
     ensures took { result ≢ 6 → Took (O.taken out.old) (O.taken out.new) text.now }
     ensures front { result ≡ 6 → AppendsFront (O.taken out.old) (O.taken out.new) text.now }
@@ -205,7 +206,7 @@ fn report_run<O: Sink>(out: &mut O, ran: Ran) -> Report
 }
 
 /// The report of a refusal.
-fn refused(alloc: Global, status: u8, outcome: Outcome) -> Report
+pub(crate) fn refused(alloc: Global, status: u8, outcome: Outcome) -> Report
     ensures status { result.status ≡ status }
     ensures same { result.outcome ≡ outcome }
     ensures empty { (result.fired ≡ []) × (result.counts ≡ []) × (result.end ≡ None) }
@@ -252,7 +253,7 @@ fn report_fault<O: Sink>(alloc: Global, out: &mut O, fault: DefFault) -> Report
 }
 
 /// The report of a refusal, whose line is written.
-fn report_refusal<O: Sink>(alloc: Global, out: &mut O, outcome: Outcome) -> Report
+pub(crate) fn report_refusal<O: Sink>(alloc: Global, out: &mut O, outcome: Outcome) -> Report
     ensures status { (result.status ≡ 6) ⊎ (result.status ≡ status_of result.outcome) }
     ensures same { IsReported outcome result.outcome }
     ensures empty { (result.fired ≡ []) × (result.counts ≡ []) × (result.end ≡ None) }
@@ -266,11 +267,11 @@ fn report_refusal<O: Sink>(alloc: Global, out: &mut O, outcome: Outcome) -> Repo
     }
 }
 
-/// Reads a definition and a program, rewrites the program by the definition's rules, at most 100,000 times, and writes
+/// The report of a run: reads a definition and a program, rewrites the program by the definition's rules, at most 100,000 times, and writes
 /// the outcome, the number of firings and the configuration reached, or the line of a refusal. Where a file can't be
 /// read or memory is wanting, it writes nothing. Where the text can't be written, the status is 6, and the outcome says
 /// what would have been written.
-pub fn krun_alone<H: Shelf, O: Sink>(
+pub fn run_report<H: Shelf, O: Sink>(
     alloc: Global,
     words: &[String],
     shelf: &mut H,
@@ -281,11 +282,12 @@ pub fn krun_alone<H: Shelf, O: Sink>(
         result.outcome word result.fired result.end text ×
         (result.status ≢ 6 → Took (O.taken out.old) (O.taken out.new) text) ×
         (result.status ≡ 6 → AppendsFront (O.taken out.old) (O.taken out.new) text)) }
-    ensures refusal { run_word result.outcome ≡ None → result.status ≢ 6 →
+    ensures refusal { is_stop result.outcome ≡ true → result.status ≢ 6 →
         Took (O.taken out.old) (O.taken out.new) (text_of result.outcome) }
-    ensures refusal_front { run_word result.outcome ≡ None → result.status ≡ 6 →
+    ensures refusal_front { is_stop result.outcome ≡ true → result.status ≡ 6 →
         AppendsFront (O.taken out.old) (O.taken out.new) (text_of result.outcome) }
-    ensures empty { run_word result.outcome ≡ None → (result.fired ≡ []) × (result.counts ≡ []) × (result.end ≡ None) }
+    ensures empty { is_stop result.outcome ≡ true → (result.fired ≡ []) × (result.counts ≡ []) × (result.end ≡ None) }
+    ensures never_shown { result.outcome ≢ WasShown }
     ensures counts { run_word result.outcome ≢ None → result.counts ≡ caller_fired (length result.fired) }
     ensures status { (result.status ≡ 6) ⊎ (result.status ≡ status_of result.outcome) }
 

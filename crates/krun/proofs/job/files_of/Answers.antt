@@ -5,7 +5,8 @@ use Rattle.std.proofs.lemmas.Option.{slice_get-map, slice_get_read}
 use Rattle.std.specs.Option.{option_map}
 use Rattle.std.specs.Cmp.Lexicographic.{same_text}
 use Rattle.krun.specs.Headline.{word_at}
-use Rattle.krun.proofs.job.job_of.Goals as goal
+use Rattle.krun.proofs.Asking.{not_asked}
+use Rattle.krun.proofs.job.files_of.Goals as goal
 
 pub returns-then-eq-clause-job : goal.returns-then-eq-clause-job
 returns-then-eq-clause-job c =
@@ -15,5 +16,13 @@ returns-then-eq-clause-job c =
     ap (λ o. unwrap_or o []) (slice_get-map string_bytes words 1 ∙ ap (option_map string_bytes) (slice_get_read words 4 1 c.mode-item.result (sym four) (grind (arith, common_steps)) c.mode-item.is)) ∙ sym c.as_str.ensures.value in
     record {
       four = length-map words string_bytes ∙ four;
-      mode = is ∙ same_text _ _ c.if-eq.ensures;
+      mode_is = is ∙ same_text _ _ c.if-eq.ensures;
     }
+
+pub returns-clause-none : goal.returns-clause-none
+returns-clause-none c =
+    let words = c.args.words.now in
+    let four : length words ≡ 4 = grind (arith, common_steps) in
+    let is : word_at (map string_bytes words) 1 ≡ c.as_str.result.now =
+    ap (λ o. unwrap_or o []) (slice_get-map string_bytes words 1 ∙ ap (option_map string_bytes) (slice_get_read words 4 1 c.mode-item.result (sym four) (grind (arith, common_steps)) c.mode-item.is)) ∙ sym c.as_str.ensures.value in
+    not_asked (map string_bytes words) c.args.wanted.now c.as_str.result.now is c.if-eq.ensures

@@ -10,7 +10,7 @@ use Rattle.small_form.specs.declared.small.Small.{Small}
 use Rattle.krun.specs.Refusals.{HasNoRefusal}
 use Rattle.krun.specs.Causes.{IsDefinition, IsProgram}
 use Rattle.krun.specs.Headline.{word_at}
-use Rattle.krun.specs.declared.outcome.ReadRefusal.TheVariants.{NoReading}
+use Rattle.program_reader.specs.declared.refusal.ReadRefusal.TheVariants.{NoReading}
 use Rattle.krun.specs.declared.outcome.Outcome.TheVariants.{Final, Budget, Program}
 use Rattle.krun.specs.Outcome.{run_word}
 use Rattle.krun.specs.Headline.{run_text as text_of_run}

@@ -6,10 +6,10 @@ use Rattle.std.specs.Prelude.{Option}
 use Rattle.krun.specs.declared.outcome.Outcome.{Outcome}
 use Rattle.krun.specs.Outcome.{run_word}
 use Rattle.krun.specs.Headline.{word_at, IsRun}
-use Rattle.krun.proofs.Causes.{Refused, HasRead, none_holds, reported, refused_definition, refused_definition_where, refused_unbuilt, refused_no_reading, refused_complete, run_read, ran_definition, ran_unbuilt, ran_no_reading, ran_whole}
-use Rattle.krun.proofs.top.krun_alone.Given.{Over}
-use Rattle.krun.proofs.top.krun_alone.Goals.{After-report_run, After-report_refusal}
-use Rattle.krun.proofs.top.krun_alone.Goals as goal
+use Rattle.krun.proofs.Causes.{Refused, HasRead, none_holds, stop_word, reported, refused_definition, refused_definition_where, refused_unbuilt, refused_no_reading, refused_complete, run_read, ran_definition, ran_unbuilt, ran_no_reading, ran_whole}
+use Rattle.krun.proofs.top.run_report.Given.{Over}
+use Rattle.krun.proofs.top.run_report.Goals.{After-report_run, After-report_refusal}
+use Rattle.krun.proofs.top.run_report.Goals as goal
 
 -- ---- a run
 
@@ -20,7 +20,7 @@ has_read g c =
     run_read _ _ ran.outcome ran.outcome ran.fired (Some ran.end) ran.text.items c.in-Ok.ensures.ended c.in-Ok.ensures.run
 
 pub returns-in-Ok-clause-refusal : goal.returns-in-Ok-clause-refusal
-returns-in-Ok-clause-refusal g c none _ = absurd (c.in-Ok.ensures.ended (ap run_word (sym c.report_run.ensures.same.0) ∙ none))
+returns-in-Ok-clause-refusal g c stop _ = absurd (c.in-Ok.ensures.ended (ap run_word (sym c.report_run.ensures.same.0) ∙ stop_word _ stop))
 
 pub returns-in-Ok-clause-definition_where : goal.returns-in-Ok-clause-definition_where
 returns-in-Ok-clause-definition_where g c fault job = ran_definition _ _ fault _ _ (has_read g c)
@@ -57,7 +57,7 @@ causes g c =
     (record { refused = e.refused; usage = e.words; definition_fault = e.definition_fault; of_definition = e.definition; never_memory = e.never_memory; unbuilt = e.unbuilt; program_fault = e.program_fault; no_reading = e.no_reading })
 
 pub returns-in-Err-clause-run : goal.returns-in-Err-clause-run
-returns-in-Err-clause-run g c = none_holds _ _ (causes g c).refused
+returns-in-Err-clause-run g c = none_holds _ _ (stop_word _ (causes g c).refused)
 
 pub returns-in-Err-clause-usage : goal.returns-in-Err-clause-usage
 returns-in-Err-clause-usage g c = (causes g c).usage
