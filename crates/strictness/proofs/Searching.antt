@@ -1,14 +1,14 @@
 -- The search for the least bad place.
-use Rattle.std.proofs.Common.{◌≡◌, inl, inr, ℕ, ◌+◌, ◌-◌, ◌<◌, ◌≤◌, ◌==◌, Bool, true, false, cond, List, length, take, refl, sym, ap, subst, ◌∙◌, arith}
+use Rattle.std.proofs.Common.{◌≡◌, inl, inr, ℕ, ◌+◌, ◌-◌, ◌<◌, ◌≤◌, ◌==◌, true, false, cond, List, length, refl, sym, ap, subst, ◌∙◌, arith}
 use Rattle.std.specs.Prelude.{Option, Some, None, slice_get, unwrap_or}
-use Rattle.std.proofs.lemmas.Bool.{eqb-true, eqb-false, ne_eqb, cases_lt}
+use Rattle.std.proofs.lemmas.Bool.{eqb-false, ne_eqb, cases_lt}
 use Rattle.std.proofs.lemmas.Option.{slice_get_within}
 use Rattle.grammar_terms.specs.declared.production.Production.{Production}
 use Rattle.grammar_terms.specs.Grammar.{production_at}
 use Rattle.strictness.specs.declared.fault.StrictFault.{StrictFault}
 use Rattle.strictness.specs.declared.fault.StrictFault.TheVariants.{BadStrict, Memory}
 use Rattle.strictness.specs.Places.{is_bad, IsLeast, NonePasses, HaveNoBadPlace, IsLeastBad}
-use Rattle.strictness.specs.Heating.{IsFault, IsBadAt}
+use Rattle.strictness.specs.Heating.{IsRefusal, IsBadAt}
 
 -- the productions at the first places have no bad place
 abbrev pub AreGood : List Production → ℕ → Type 0
@@ -55,7 +55,7 @@ module _ (prods : List Production) where
 
   -- the fault that is told
   pub told : (i place : ℕ) (production : Production) (fault : StrictFault) → slice_get prods i ≡ Some production → IsLeast (is_bad production) place → AreGood prods i
-      → IsBadAt (i + 1) place fault → IsFault prods fault
+      → IsBadAt (i + 1) place fault → IsRefusal prods fault
   told i place production (BadStrict p at) is bad good same =
-      subst (λ n. IsLeastBad prods n at) (sym same.0) (subst (IsLeastBad prods (i + 1)) (sym same.1) (least i place production is bad good))
-  told i place production Memory is bad good same = tt
+      inr (subst (λ n. IsLeastBad prods n at) (sym same.0) (subst (IsLeastBad prods (i + 1)) (sym same.1) (least i place production is bad good)))
+  told i place production Memory is bad good same = inl refl

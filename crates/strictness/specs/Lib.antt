@@ -1,3 +1,4 @@
 pub mod Places
 pub mod Drafts
 pub mod Heating
+pub mod Laws

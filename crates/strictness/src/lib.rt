@@ -3,6 +3,7 @@
 
 mod drafts;
 mod fault;
+pub mod laws;
 mod places;
 mod rules;
 

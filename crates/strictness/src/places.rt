@@ -4,7 +4,7 @@ ghost use Rattle.std.specs.Option.{option_map_or};
 ghost use Rattle.grammar_terms.specs.Grammar.{is_not_strict as not_strict};
 ghost use Rattle.grammar_terms.specs.Values.{sorts_in};
 ghost use Rattle.strictness.specs.Places.{places_to, named_by as named_in, named_places as named, may_heat as heats, is_bad, is_bad_whole as bad_whole, is_vain, is_whole as whole, IsLeast, NonePasses, HaveNoBadPlace};
-ghost use Rattle.strictness.specs.Heating.{IsBadAt, IsFault};
+ghost use Rattle.strictness.specs.Heating.{IsBadAt, IsRefusal};
 
 use crate::fault::StrictFault;
 use grammar_terms::{Part, Production};
@@ -147,7 +147,7 @@ fn bad_strict(index: usize, place: u64) -> StrictFault
 
 /// Tells the least bad place of productions, if there is one.
 pub(crate) fn refuse_bad(alloc: Global, prods: &[Production]) -> Result<(), StrictFault>
-    ensures { MatchResult result (λ _. HaveNoBadPlace prods.now) (IsFault prods.now) }
+    ensures { MatchResult result (λ _. HaveNoBadPlace prods.now) (IsRefusal prods.now) }
 {
     for (index, production) in prods.iter().enumerate() {
         if let Some(place) = least_bad(alloc, production)? {

@@ -1,9 +1,10 @@
 //! The rules of all strict places of a grammar.
-ghost use Rattle.std.specs.Prelude.{◌≡◌, ℕ, ◌⊎◌, ◌++◌, ◌^◌, ◌<◌, ◌+◌, IfOk, MatchResult, IfErr};
+ghost use Rattle.std.specs.Prelude.{◌≡◌, ◌⊎◌, ◌++◌, ◌+◌, IfOk, IfErr, MatchResult};
 ghost use Rattle.strictness.specs.declared.fault.StrictFault.TheVariants.{Memory as WantOfMemory};
-ghost use Rattle.strictness.specs.Places.{declared_in, is_among as among, HaveNoBadPlace, IsLeastBad};
+ghost use Rattle.strictness.specs.declared.fault.StrictFault.{StrictFault as Fault};
+ghost use Rattle.strictness.specs.Places.{declared_in, is_among as among, HaveNoBadPlace};
 ghost use Rattle.strictness.specs.Drafts.{drafts_at, drafts_of, drafts_from, strict_drafts};
-ghost use Rattle.strictness.specs.Heating.{IsFault};
+ghost use Rattle.strictness.specs.Heating.{IsFault, IsRefusal};
 
 use crate::drafts::{cooling, heating};
 use crate::fault::StrictFault;
@@ -93,14 +94,27 @@ fn drafts(alloc: Global, cell: u32, prods: &[Production]) -> Result<Many<Draft>,
     Ok(Many::from_vec(drafts))
 }
 
-/// The rules of heating and cooling of a grammar's declared productions: for each strict place, productions and places
-/// rising, the rule that pulls the argument out and the one that puts a result back. Both are over one cell alone, whose
-/// declared cell is `k`.
-pub fn heat_cool(alloc: Global, grammar: &Grammar, k: u32) -> Result<Many<Draft>, StrictFault>
-    ensures ok { IfOk result (λ drafts. drafts ≡ strict_drafts grammar.now k) }
-    ensures fault { MatchResult result (λ _. HaveNoBadPlace (declared_in grammar.now)) (IsFault (declared_in grammar.now)) }
+/// The rules, or why there are none.
+fn strict_rules(alloc: Global, grammar: &Grammar, k: u32) -> Result<Many<Draft>, StrictFault>
+    ensures { MatchResult result
+        (λ drafts. (drafts ≡ strict_drafts grammar.now k) × HaveNoBadPlace (declared_in grammar.now))
+        (IsRefusal (declared_in grammar.now)) }
 {
     let prods = declared(grammar);
     refuse_bad(alloc, prods)?;
     Ok(drafts(alloc, k, prods)?)
+}
+
+/// The rules of heating and cooling of a grammar's declared productions: for each strict place, productions and places
+/// rising, the rule that pulls the argument out and the one that puts a result back. Both are over one cell alone, whose
+/// declared cell is `k`.
+pub fn heat_cool(alloc: Global, grammar: &Grammar, k: u32) -> Result<Many<Draft>, StrictFault>
+    ensures ok { IfOk result (λ drafts. (drafts ≡ strict_drafts grammar.now k) × HaveNoBadPlace (declared_in grammar.now)) }
+    ensures fault { IfErr result (λ fault. (fault ≡ WantOfMemory) ⊎ IsFault (declared_in grammar.now) fault) }
+    ensures exact { HaveNoBadPlace (declared_in grammar.now)
+        → MatchResult result (λ drafts. drafts ≡ strict_drafts grammar.now k) (λ fault. fault ≡ WantOfMemory) }
+    ensures exact_fault { (fault : Fault) → IsFault (declared_in grammar.now) fault
+        → MatchResult result (λ _. ⊥) (λ other. (other ≡ WantOfMemory) ⊎ (other ≡ fault)) }
+{
+    strict_rules(alloc, grammar, k)
 }

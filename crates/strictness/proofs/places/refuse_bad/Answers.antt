@@ -1,4 +1,4 @@
-use Rattle.std.proofs.Common.{◌≡◌, length, refl, subst, sym, ◌∙◌, MatchOption}
+use Rattle.std.proofs.Common.{◌≡◌, length, refl, subst, MatchOption}
 use Rattle.std.specs.Prelude.{Some, slice_get}
 use Rattle.std.proofs.lemmas.Option.{slice_get_read}
 use Rattle.strictness.specs.Places.{is_bad, IsLeast, NonePasses}

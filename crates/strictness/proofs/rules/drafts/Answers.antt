@@ -1,5 +1,3 @@
-use Rattle.std.proofs.Common.{ap, ◌∙◌, ◌++◌}
-use Rattle.strictness.specs.Drafts.{drafts_of}
 use Rattle.strictness.proofs.Ranges.{production_added}
 use Rattle.strictness.proofs.rules.drafts.Goals as goal
 

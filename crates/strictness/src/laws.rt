@@ -1,0 +1,12 @@
+//! Laws of the definitions that contracts cite. The contract of each function is the law.
+ghost use Rattle.strictness.specs.Laws.{HaveOneFault, HaveNotBoth};
+
+/// Productions have at most one fault.
+pub fn one_fault()
+    ensures { HaveOneFault }
+{}
+
+/// Productions without a bad place have none.
+pub fn not_both()
+    ensures { HaveNotBoth }
+{}
