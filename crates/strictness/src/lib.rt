@@ -9,3 +9,6 @@ mod rules;
 
 pub use fault::StrictFault;
 pub use rules::heat_cool;
+
+#[cfg(test)]
+mod tests;
