@@ -20,19 +20,19 @@ module _ (prods : List Production) where
   good_further i next is good before other production below at = elim (cases_lt other i) [
     | inl less ↦ before other production less at
     | inr past ↦
-      let here : other ≡ i = omega (arith, below, past) in
-      let same : ◌≡◌ {A = Option Production} (Some next) (Some production) = sym is ∙ ap (slice_get prods) (sym here) ∙ at in
-      subst (λ (q : Production). NonePasses (is_bad q)) (ap (λ o. unwrap_or o next) same) good
+        let here : other ≡ i = omega (arith, below, past) in
+        let same : ◌≡◌ {A = Option Production} (Some next) (Some production) = sym is ∙ ap (slice_get prods) (sym here) ∙ at in
+        subst (λ (q : Production). NonePasses (is_bad q)) (ap (λ o. unwrap_or o next) same) good
   ]
 
   -- a production has a place from 1 on
-  placed : (p : ℕ) (production : Production) → production_at prods p ≡ Some production → (0 < p) × (slice_get prods (p - 1) ≡ Some production)
+  pub placed : (p : ℕ) (production : Production) → production_at prods p ≡ Some production → (0 < p) × (slice_get prods (p - 1) ≡ Some production)
   placed p production at = elim (p == 0) as (λ b. (p == 0) ≡ b → cond b None (slice_get prods (p - 1)) ≡ Some production → (0 < p) × (slice_get prods (p - 1) ≡ Some production)) [
     | true ↦ λ zero none. absurd (cc)
     | false ↦ λ some is. (let differ = eqb-false p 0 some in omega (arith, differ), is)
   ] refl at
 
-  place_of : (i : ℕ) (production : Production) → slice_get prods i ≡ Some production → production_at prods (i + 1) ≡ Some production
+  pub place_of : (i : ℕ) (production : Production) → slice_get prods i ≡ Some production → production_at prods (i + 1) ≡ Some production
   place_of i production is =
       let differ : (i + 1 == 0) ≡ false = ne_eqb (i + 1) 0 (λ same. omega (arith, same)) in
       let before : i + 1 - 1 ≡ i = omega arith in

@@ -1,5 +1,5 @@
 //! Laws of the definitions that contracts cite. The contract of each function is the law.
-ghost use Rattle.strictness.specs.Laws.{HaveOneFault, HaveNotBoth};
+ghost use Rattle.strictness.specs.Laws.{HaveOneFault, HaveNotBoth, AreSound};
 
 /// Productions have at most one fault.
 pub fn one_fault()
@@ -9,4 +9,9 @@ pub fn one_fault()
 /// Productions without a bad place have none.
 pub fn not_both()
     ensures { HaveNotBoth }
+{}
+
+/// Where the cell `k` is the root, the rules are sound as they stand.
+pub fn are_sound()
+    ensures { AreSound }
 {}

@@ -266,7 +266,10 @@ fn names_the_least_bad_place(rt: HostRuntime) -> Result<(), Fail> {
         (&[both], "bad 1 0"),
         (&[strict(&[sort::K], &[])], "bad 1 1"),
         (&[seqstrict(&[AEXP, sort::MAP, sort::LIST])], "bad 1 2"),
-        (&[strict(&[AEXP, sort::MAP, sort::LIST], &[1, 3])], "bad 1 3"),
+        (
+            &[strict(&[AEXP, sort::MAP, sort::LIST], &[1, 3])],
+            "bad 1 3",
+        ),
         (
             &[
                 plain(&[]),

@@ -13,9 +13,9 @@ loop-index-preserved c =
     c.deref.ensures.value c.in_ok-named.ensures (omega (arith, c.len.ensures, c.in_ok-sorts.sorts.ok.0)) (c.in_ok-sorts.ensures ∙ ap sorts_in c.as_slice.ensures) in
     elim c.if-is_named.branch [
       | then-is_named+in_ok-add_pair w ↦
-        place_strict c.args.cell c.args.prod production c.loop-index.index c.if-is_named.drafts.items c.loop-index.drafts.items c.args.drafts.now.items c.loop-index.invariant
-        (sym here ∙ w.if-is_named.true) (ap (λ drafts. drafts.items) w.drafts-is ∙ w.in_ok-add_pair.ensures)
+          place_strict c.args.cell c.args.prod production c.loop-index.index c.if-is_named.drafts.items c.loop-index.drafts.items c.args.drafts.now.items c.loop-index.invariant
+          (sym here ∙ w.if-is_named.true) (ap (λ drafts. drafts.items) w.drafts-is ∙ w.in_ok-add_pair.ensures)
       | else-is_named w ↦
-        place_lazy c.args.cell c.args.prod production c.loop-index.index c.if-is_named.drafts.items c.loop-index.drafts.items c.args.drafts.now.items c.loop-index.invariant
-        (sym here ∙ w.if-is_named.false) (ap (λ drafts. drafts.items) w.drafts-is)
+          place_lazy c.args.cell c.args.prod production c.loop-index.index c.if-is_named.drafts.items c.loop-index.drafts.items c.args.drafts.now.items c.loop-index.invariant
+          (sym here ∙ w.if-is_named.false) (ap (λ drafts. drafts.items) w.drafts-is)
     ]
