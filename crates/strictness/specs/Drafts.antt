@@ -70,7 +70,8 @@ cooling cell p sorts place = record {
 
 -- the two rules of a place
 abbrev pub drafts_at : ℕ → ℕ → Production → ℕ → List Draft
-drafts_at cell p production place = heating cell p production.attrs (arguments production) place ∷ cooling cell p (arguments production) place ∷ []
+drafts_at cell p production place =
+    heating cell p production.attrs (arguments production) place ∷ cooling cell p (arguments production) place ∷ []
 
 -- those of production p, place by place
 abbrev pub drafts_of : ℕ → ℕ → Production → List Draft

@@ -16,7 +16,8 @@ use Rattle.strictness.specs.Heating.{IsFault}
 
 -- productions have at most one fault
 abbrev pub HaveOneFault : Type 0
-HaveOneFault = (prods : List Production) (one other : StrictFault) → IsFault prods one → IsFault prods other → one ≡ other
+HaveOneFault =
+    (prods : List Production) (one other : StrictFault) → IsFault prods one → IsFault prods other → one ≡ other
 
 -- and none where no place is bad
 abbrev pub HaveNotBoth : Type 0
@@ -24,7 +25,8 @@ HaveNotBoth = (prods : List Production) (fault : StrictFault) → HaveNoBadPlace
 
 -- the rule that a draft is whose sides are one cell each
 abbrev pub rule_of : Draft → CellPat → CellPat → Rule
-rule_of draft left right = record { origin = draft.origin; vars = draft.vars; left = left; right = right; when = draft.when }
+rule_of draft left right =
+    record { origin = draft.origin; vars = draft.vars; left = left; right = right; when = draft.when }
 
 -- a declared cell is the root, and contains a sequence
 pub record IsRoot (d : Language) (k : ℕ) : Type 0 where
@@ -35,5 +37,7 @@ pub record IsRoot (d : Language) (k : ℕ) : Type 0 where
 
 -- where the cell k is the root, the rules of heating and cooling are sound as they stand
 abbrev pub AreSound : Type 0
-AreSound = (d : Language) (g : Syntax) (k : ℕ) (draft : Draft) (left right : CellPat) → IsRoot d k → HaveNoBadPlace (declared_in g) → Contains (strict_drafts g k) draft
+AreSound =
+    (d : Language) (g : Syntax) (k : ℕ) (draft : Draft) (left right : CellPat)
+    → IsRoot d k → HaveNoBadPlace (declared_in g) → Contains (strict_drafts g k) draft
     → draft.left ≡ left ∷ [] → draft.right ≡ right ∷ [] → IsSoundRule d (rule_of draft left right)

@@ -87,7 +87,8 @@ declared_in g = take g.declared g.prods
 
 -- no place of these productions is bad
 abbrev pub HaveNoBadPlace : List Production → Type 0
-HaveNoBadPlace prods = (p : ℕ) (production : Production) → production_at prods p ≡ Some production → NonePasses (is_bad production)
+HaveNoBadPlace prods =
+    (p : ℕ) (production : Production) → production_at prods p ≡ Some production → NonePasses (is_bad production)
 
 -- the least production that has a bad place, and its least one
 pub record IsLeastBad (prods : List Production) (p place : ℕ) : Type 0 where

@@ -122,7 +122,8 @@ fn least_vain(named: &[u64], sorts: &[u32]) -> Option<u64>
 
 /// The least bad place of a production.
 fn least_bad(alloc: Global, production: &Production) -> Result<Option<u64>, Memory>
-    ensures { IfOk result (λ found. MatchOption found (NonePasses (is_bad production.now)) (IsLeast (is_bad production.now))) }
+    ensures { IfOk result (λ found.
+        MatchOption found (NonePasses (is_bad production.now)) (IsLeast (is_bad production.now))) }
 {
     let sorts = argument_sorts(alloc, production.items.as_slice())?;
     if is_bad_whole(&production.attrs, &sorts) {

@@ -109,7 +109,8 @@ fn strict_rules(alloc: Global, grammar: &Grammar, k: u32) -> Result<Many<Draft>,
 /// rising, the rule that pulls the argument out and the one that puts a result back. Both are over one cell alone, whose
 /// declared cell is `k`.
 pub fn heat_cool(alloc: Global, grammar: &Grammar, k: u32) -> Result<Many<Draft>, StrictFault>
-    ensures ok { IfOk result (λ drafts. (drafts ≡ strict_drafts grammar.now k) × HaveNoBadPlace (declared_in grammar.now)) }
+    ensures ok { IfOk result (λ drafts.
+        (drafts ≡ strict_drafts grammar.now k) × HaveNoBadPlace (declared_in grammar.now)) }
     ensures fault { IfErr result (λ fault. (fault ≡ WantOfMemory) ⊎ IsFault (declared_in grammar.now) fault) }
     ensures exact { HaveNoBadPlace (declared_in grammar.now)
         → MatchResult result (λ drafts. drafts ≡ strict_drafts grammar.now k) (λ fault. fault ≡ WantOfMemory) }
