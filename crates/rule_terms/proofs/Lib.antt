@@ -17,3 +17,4 @@ pub mod BoundFormed
 pub mod Known
 pub mod Sounding
 pub mod ExamplesSound
+pub mod RuleEquality
