@@ -18,3 +18,5 @@ pub mod Known
 pub mod Sounding
 pub mod ExamplesSound
 pub mod RuleEquality
+pub mod BodyEquality
+pub mod EqualDefs
