@@ -105,15 +105,16 @@ IsCellDecided c = (d : CellPat) → Decides (cell.ghosts.eq c d) (c ≡ d)
 pub body_decides : (a b : Body) → Decides (body.ghosts.eq a b) (a ≡ b)
 body_decides = ind-Body IsDecided IsCellDecided
     (λ x y e b.
-      let bodies = λ (p : (a : Body) × IsDecided a). p.0 in
-      let cells = λ (p : (c : CellPat) × IsCellDecided c). p.0 in
-      let level = level_decides bodies cells (λ p d. cell.ghosts.eq p.0 d) (λ p d. p.1 d) y (out-Body b) in
-      let seen : body.ghosts.eq (roll-Body x) b ≡ level_eq cell.ghosts.eq x (out-Body b) =
-      body_laws.is (roll-Body x) b ∙ body_seen (roll-Body x) b x (out-Body b) (out-roll-Body x) refl in
-      let same : body.ghosts.eq (roll-Body x) b ≡ level_eq (λ (p : (c : CellPat) × IsCellDecided c) d. cell.ghosts.eq p.0 d) y (out-Body b) =
-      seen ∙ ap (λ z. level_eq cell.ghosts.eq z (out-Body b)) (sym e) ∙ level_eq-map bodies cells cell.ghosts.eq y (out-Body b) in
-      (λ t. ap roll-Body (sym e ∙ level.0 (sym same ∙ t)) ∙ roll-out-Body b,
-      λ f. same ∙ level.1 (e ∙ sym (out-roll-Body x) ∙ ap out-Body f)))
+    let bodies = λ (p : (a : Body) × IsDecided a). p.0 in
+    let cells = λ (p : (c : CellPat) × IsCellDecided c). p.0 in
+    let level = level_decides bodies cells (λ p d. cell.ghosts.eq p.0 d) (λ p d. p.1 d) y (out-Body b) in
+    let seen : body.ghosts.eq (roll-Body x) b ≡ level_eq cell.ghosts.eq x (out-Body b) =
+    body_laws.is (roll-Body x) b ∙ body_seen (roll-Body x) b x (out-Body b) (out-roll-Body x) refl in
+    let same : body.ghosts.eq (roll-Body x) b ≡ level_eq (λ (p : (c : CellPat) × IsCellDecided c) d. cell.ghosts.eq p.0 d) y (out-Body b) =
+    seen ∙ ap (λ z. level_eq cell.ghosts.eq z (out-Body b)) (sym e) ∙ level_eq-map bodies cells cell.ghosts.eq y (out-Body b) in (
+      λ t. ap roll-Body (sym e ∙ level.0 (sym same ∙ t)) ∙ roll-out-Body b,
+      λ f. same ∙ level.1 (e ∙ sym (out-roll-Body x) ∙ ap out-Body f),
+    ))
     (λ x y e. subst (λ z. IsCellDecided (roll-CellPat z)) e (λ d. cell_by _ d (y.body.1 d.body)))
 
 pub cell_decides : (c d : CellPat) → Decides (cell.ghosts.eq c d) (c ≡ d)

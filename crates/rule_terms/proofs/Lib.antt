@@ -20,3 +20,4 @@ pub mod ExamplesSound
 pub mod RuleEquality
 pub mod BodyEquality
 pub mod EqualDefs
+pub mod SpotCounts

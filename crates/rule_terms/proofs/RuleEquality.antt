@@ -127,6 +127,7 @@ pattern_decides = ind-Pattern IsDecided (λ x y e b.
     let seen : pattern.ghosts.eq (roll-Pattern x) b ≡ level_eq pattern.ghosts.eq x (out-Pattern b) =
     pattern_laws.is (roll-Pattern x) b ∙ pattern_seen (roll-Pattern x) b x (out-Pattern b) (out-roll-Pattern x) refl in
     let same : pattern.ghosts.eq (roll-Pattern x) b ≡ level_eq (λ (p : (a : Pattern) × IsDecided a) c. pattern.ghosts.eq p.0 c) y (out-Pattern b) =
-    seen ∙ ap (λ z. level_eq pattern.ghosts.eq z (out-Pattern b)) (sym e) ∙ level_eq-map parts pattern.ghosts.eq y (out-Pattern b) in
-    (λ t. ap roll-Pattern (sym e ∙ level.0 (sym same ∙ t)) ∙ roll-out-Pattern b,
-    λ f. same ∙ level.1 (e ∙ sym (out-roll-Pattern x) ∙ ap out-Pattern f)))
+    seen ∙ ap (λ z. level_eq pattern.ghosts.eq z (out-Pattern b)) (sym e) ∙ level_eq-map parts pattern.ghosts.eq y (out-Pattern b) in (
+      λ t. ap roll-Pattern (sym e ∙ level.0 (sym same ∙ t)) ∙ roll-out-Pattern b,
+      λ f. same ∙ level.1 (e ∙ sym (out-roll-Pattern x) ∙ ap out-Pattern f),
+    ))

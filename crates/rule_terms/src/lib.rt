@@ -2,6 +2,7 @@
 #![tactic(auto)]
 
 mod copying;
+mod counts;
 mod defs;
 mod equality;
 pub mod laws;
@@ -10,6 +11,7 @@ mod plain;
 mod rule;
 
 pub use copying::copy_rule;
+pub use counts::{left_cells, new_cells};
 pub use defs::{CellShape, Defs, Kind};
 pub use equality::{equal_defs, equal_rule};
 pub use pattern::{Body, CellPat, Pattern};
