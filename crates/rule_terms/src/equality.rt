@@ -11,7 +11,7 @@ use std::sync::Arc;
 pub fn equal_rule(a: &Rule, b: &Rule) -> bool
     ensures { IsTrue result ↔ (a.now ≡ b.now) }
 {
-    a == b
+    *a == *b
 }
 
 fn equal_steps(a: &[(u32, u32)], b: &[(u32, u32)]) -> bool
