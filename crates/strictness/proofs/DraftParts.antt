@@ -1,5 +1,5 @@
 -- The parts of the rules of heating and cooling, and the variables in them.
-use Rattle.std.proofs.Common.{◌≡◌, ◌⊎◌, inl, inr, ℕ, zero, suc, ◌+◌, ◌-◌, ◌<◌, ◌≤◌, Bool, true, false, not, cond, ◌==◌, ◌&&◌, ◌||◌, List, [], ◌∷◌, length, map, refl, sym, ap, subst, ◌∙◌, arith}
+use Rattle.std.proofs.Common.{◌≡◌, ◌⊎◌, inl, inr, ℕ, zero, suc, ◌+◌, ◌-◌, ◌<◌, ◌≤◌, Bool, true, false, not, cond, ◌==◌, ◌&&◌, ◌||◌, List, [], ◌∷◌, ◌++◌, length, map, refl, sym, ap, subst, ◌∙◌, arith}
 use Rattle.std.proofs.lemmas.Bool.{eqb-true, eqb-false, eq-eqb, ne_eqb, cases_lt}
 use Rattle.std.proofs.lemmas.List.{get_or_append_left, length-append}
 use Rattle.std.proofs.lemmas.Option.{slice_get-get_or, slice_get_within}
@@ -148,21 +148,24 @@ module _ (sorts : List ℕ) (p : ℕ) where
   abbrev vars : List ℕ
   vars = sorts_of_variables sorts
 
-  pub plain_whole : ArePlain vars (whole p n)
-  plain_whole = record {
+  pub plain_whole : (vs : List ℕ) → ArePlain vs (whole p n)
+  plain_whole vs = record {
     values = ap (λ b. b && true) (formed_Node p (variables n) ∙ formed_all (range_with_len 0 n));
     no_operator = ap (λ b. b && true) (operator_Node p (variables n) ∙ operator_all (range_with_len 0 n));
-    sequences = ap (λ b. b && true) (sequence_Node vars p (variables n) ∙ sequence_all vars (range_with_len 0 n));
+    sequences = ap (λ b. b && true) (sequence_Node vs p (variables n) ∙ sequence_all vs (range_with_len 0 n));
     items = refl;
   }
 
-  -- the sort of a variable
-  variable_sort : (x sort : ℕ) → slice_get sorts x ≡ Some sort → slice_get vars x ≡ Some sort
-  variable_sort x sort is =
+  -- these sorts begin with those of the arguments
+  abbrev pub Begins : List ℕ → Type 0
+  Begins vs = (x sort : ℕ) → slice_get sorts x ≡ Some sort → slice_get vs x ≡ Some sort
+
+  pub begins : (more : List ℕ) → Begins (sorts ++ more)
+  begins more x sort is =
       let within : x < length sorts = slice_get_within sorts x sort is in
-      let size : length vars ≡ length sorts + 1 = length-append sorts (sort_k ∷ []) in
-      slice_get-get_or vars x sort (omega arith)
-      ∙ ap Some (get_or_append_left sorts (sort_k ∷ []) sort x within)
+      let size : length (sorts ++ more) ≡ length sorts + length more = length-append sorts more in
+      slice_get-get_or (sorts ++ more) x sort (omega arith)
+      ∙ ap Some (get_or_append_left sorts more sort x within)
       ∙ sym (slice_get-get_or sorts x sort within)
       ∙ is
 
@@ -174,22 +177,22 @@ module _ (sorts : List ℕ) (p : ℕ) where
     no_sequence : (sort : ℕ) → not (is_whole sort) ≡ true → not (sort == sort_k) ≡ true
     no_sequence sort h = elim (sort == sort_k) as (λ b. not (b || sort == sort_map || sort == sort_list) ≡ true → not b ≡ true) [ true ↦ λ e. e | false ↦ λ e. refl ] h
 
-    item : not (is_sequence_variable vars (Var x)) ≡ true
-    item =
+    item : (vs : List ℕ) → Begins vs → not (is_sequence_variable vs (Var x)) ≡ true
+    item vs front =
         let some : (place == 0) ≡ false = ne_eqb place 0 (λ e. omega (arith, e)) in
         let at : option_map_or (λ sort. not (is_whole sort)) (slice_get sorts x) false ≡ true = ap (λ b. option_map_or (λ sort. not (is_whole sort)) (cond b None (slice_get sorts x)) false) (sym some) ∙ heats in
-        elim (slice_get sorts x) as (λ o. slice_get sorts x ≡ o → option_map_or (λ sort. not (is_whole sort)) o false ≡ true → not (is_sequence_variable vars (Var x)) ≡ true) [
+        elim (slice_get sorts x) as (λ o. slice_get sorts x ≡ o → option_map_or (λ sort. not (is_whole sort)) o false ≡ true → not (is_sequence_variable vs (Var x)) ≡ true) [
           | None ↦ λ is h. cc
-          | Some sort ↦ λ is h. ap (λ o. not (option_map_or (λ s. s == sort_k) o false)) (variable_sort x sort is) ∙ no_sequence sort h
+          | Some sort ↦ λ is h. ap (λ o. not (option_map_or (λ s. s == sort_k) o false)) (front x sort is) ∙ no_sequence sort h
         ] refl at
 
-    pub plain_pulled : ArePlain vars (pulled p n place)
+    pub plain_pulled : (vs : List ℕ) → Begins vs → ArePlain vs (pulled p n place)
     unfolding has_formed_values has_no_operator has_whole_sequences
-    plain_pulled = record {
+    plain_pulled vs front = record {
       values = ap (λ b. b && true) (formed_Freezer p place (others n place) ∙ formed_all (filter (λ y. not (y + 1 == place)) (range_with_len 0 n)));
       no_operator = ap (λ b. b && true) (operator_Freezer p place (others n place) ∙ operator_all (filter (λ y. not (y + 1 == place)) (range_with_len 0 n)));
-      sequences = ap (λ b. b && true) (sequence_Freezer vars p place (others n place) ∙ sequence_all vars (filter (λ y. not (y + 1 == place)) (range_with_len 0 n)));
-      items = ap (λ b. b && true) item;
+      sequences = ap (λ b. b && true) (sequence_Freezer vs p place (others n place) ∙ sequence_all vs (filter (λ y. not (y + 1 == place)) (range_with_len 0 n)));
+      items = ap (λ b. b && true) (item vs front);
     }
 
     -- each variable stands in the one and in the other
@@ -256,11 +259,11 @@ module _ (sorts : List ℕ) (p : ℕ) where
       | false ↦ refl
     ]
 
-    pub plain_heated : (attrs : Attrs) → ArePlainConditions vars (when_heated attrs place)
-    plain_heated attrs = record { values = earlier_all has_formed_values attrs; sequences = earlier_all (has_whole_sequences vars) attrs }
+    pub plain_heated : (vs : List ℕ) (attrs : Attrs) → ArePlainConditions vs (when_heated attrs place)
+    plain_heated vs attrs = record { values = earlier_all has_formed_values attrs; sequences = earlier_all (has_whole_sequences vs) attrs }
 
-    pub plain_cooled : ArePlainConditions vars (when_cooled place)
-    plain_cooled = record { values = refl; sequences = refl }
+    pub plain_cooled : (vs : List ℕ) → ArePlainConditions vs (when_cooled place)
+    plain_cooled vs = record { values = refl; sequences = refl }
 
     earlier_mention : (y : ℕ) (xs : List ℕ) → list_any (cond_mentions y) (map (λ z. IsSort z sort_kresult) xs) ≡ is_in y xs
     earlier_mention y [] = refl

@@ -1,5 +1,5 @@
 -- A rule that rewrites the front of one cell is sound where its parts are.
-use Rattle.std.proofs.Common.{◌≡◌, ◌⊎◌, inl, inr, ℕ, ◌<◌, Bool, true, false, not, ◌||◌, List, [], ◌∷◌, length, refl, sym, ap, subst, arith}
+use Rattle.std.proofs.Common.{◌≡◌, ◌⊎◌, inl, inr, ℕ, ◌<◌, Bool, true, false, not, ◌||◌, List, [], ◌∷◌, ◌++◌, length, refl, sym, ap, subst, arith}
 use Rattle.std.proofs.lemmas.Bool.{leb-true}
 use Rattle.std.proofs.lemmas.List.Elements.{All-contains, All-from_recursion}
 use Rattle.std.specs.Prelude.{Some, None, Contains}
@@ -11,11 +11,13 @@ use Rattle.rule_terms.specs.declared.pattern.CellPat.{CellPat}
 use Rattle.rule_terms.specs.declared.rule.Cond.{Cond}
 use Rattle.rule_terms.specs.declared.rule.Origin.{Origin}
 use Rattle.rule_terms.specs.declared.rule.Rule.{Rule}
+use Rattle.rule_terms.specs.declared.rule.Draft.{Draft}
 use Rattle.rule_terms.specs.Language.{Language}
 use Rattle.rule_terms.specs.Spots.{Spot, spots, spots_in}
 use Rattle.rule_terms.specs.Sound.{side_limit, is_body_of, has_formed_values, has_no_operator, has_whole_sequences, is_sequence_variable, condition_test, IsPlaced, IsSameCell, cells_rest, body_mentions, conditions_mention, HasSoundCells, HasSoundVariables, HasSoundPatterns, IsSoundRule}
 use Rattle.rule_terms.proofs.Defined.{one_of}
 use Rattle.strictness.specs.Laws.{IsRoot}
+use Rattle.strictness.specs.SoundDrafts.{IsSoundDraft}
 
 -- the cell of a side
 abbrev pub cell_of : ℕ → ℕ → List Pattern → CellPat
@@ -127,3 +129,31 @@ one_cell_sound d origin cell vars rest left right when root on_left on_right con
   variables = sound_variables origin cell vars rest left right when bound;
   patterns = sound_patterns origin cell vars rest left right when on_left on_right conditions;
 }
+
+-- ---- the draft
+
+abbrev pub one_cell_of : Origin → ℕ → List ℕ → ℕ → List Pattern → List Pattern → List Cond → Draft
+one_cell_of origin cell vars rest left right when =
+    record { origin = origin; vars = vars; left = cell_of cell rest left ∷ []; right = cell_of cell rest right ∷ []; when = when }
+
+pub one_cell_draft : (origin : Origin) (cell : ℕ) (vars : List ℕ) (rest : ℕ) (left right : List Pattern) (when : List Cond)
+    → ((more : List ℕ) → ArePlain (vars ++ more) left) → ((more : List ℕ) → ArePlain (vars ++ more) right) → ((more : List ℕ) → ArePlainConditions (vars ++ more) when)
+    → AreBound vars rest left right when → IsSoundDraft (one_cell_of origin cell vars rest left right when)
+unfolding spots_in spot_of
+one_cell_draft origin cell vars rest left right when on_left on_right conditions are =
+    let variables = sound_variables origin cell vars rest left right when are in
+    record {
+      left_marks = refl;
+      right_marks = refl;
+      staying = λ p q in_left in_right same.
+          each_spot (λ p. (p.cell ≡ q.cell) × (cells_rest p.body ≡ cells_rest q.body)) cell rest left
+          (each_spot (λ q. (cell ≡ q.cell) × (None ≡ cells_rest q.body)) cell rest right (refl, refl) q in_right) p in_left;
+      bound = variables.bound;
+      known = variables.known;
+      values = rw ((on_left []).values, (on_right []).values) refl;
+      condition_values = (conditions []).values;
+      no_operator = rw (on_left []).no_operator refl;
+      sequences = λ more. rw ((on_left more).sequences, (on_right more).sequences) refl;
+      condition_sequences = λ more. (conditions more).sequences;
+      forms = λ more. rw ((on_left more).items, (on_right more).items) refl;
+    }

@@ -13,6 +13,7 @@ use Rattle.strictness.specs.declared.fault.StrictFault.{StrictFault}
 use Rattle.strictness.specs.Places.{declared_in, HaveNoBadPlace}
 use Rattle.strictness.specs.Drafts.{strict_drafts}
 use Rattle.strictness.specs.Heating.{IsFault}
+use Rattle.strictness.specs.SoundDrafts.{IsSoundDraft}
 
 -- productions have at most one fault
 abbrev pub HaveOneFault : Type 0
@@ -41,3 +42,8 @@ AreSound =
     (d : Language) (g : Syntax) (k : ℕ) (draft : Draft) (left right : CellPat)
     → IsRoot d k → HaveNoBadPlace (declared_in g) → Contains (strict_drafts g k) draft
     → draft.left ≡ left ∷ [] → draft.right ≡ right ∷ [] → IsSoundRule d (rule_of draft left right)
+
+-- and they are fit to be completed to sound rules elsewhere
+abbrev pub AreSoundDrafts : Type 0
+AreSoundDrafts =
+    (g : Syntax) (k : ℕ) (draft : Draft) → HaveNoBadPlace (declared_in g) → Contains (strict_drafts g k) draft → IsSoundDraft draft
