@@ -46,4 +46,5 @@ AreSound =
 -- and they are fit to be completed to sound rules elsewhere
 abbrev pub AreSoundDrafts : Type 0
 AreSoundDrafts =
-    (g : Syntax) (k : ℕ) (draft : Draft) → HaveNoBadPlace (declared_in g) → Contains (strict_drafts g k) draft → IsSoundDraft draft
+    (g : Syntax) (k : ℕ) (draft : Draft)
+    → HaveNoBadPlace (declared_in g) → Contains (strict_drafts g k) draft → IsSoundDraft draft
