@@ -1,5 +1,5 @@
 -- The derived tests of bodies and cell patterns.
-use Rattle.std.proofs.Common.{◌≡◌, ℕ, Bool, true, false, ◌&&◌, ◌==◌, List, [], ◌∷◌, map, Option, Some, None, refl, sym, ap, subst, ◌∙◌}
+use Rattle.std.proofs.Common.{◌≡◌, Bool, false, ◌&&◌, ◌==◌, List, map, refl, sym, ap, subst, ◌∙◌}
 use Rattle.std.specs.Bool.{Decides}
 use Rattle.std.specs.Option.{option_eq}
 use Rattle.std.specs.Cmp.Lexicographic.{pointwise}
@@ -9,9 +9,8 @@ use Rattle.rule_terms.specs.declared.pattern.Pattern.{Pattern}
 use Rattle.rule_terms.specs.contracts.pattern.PatternPartialEq.TheImpl as pattern
 use Rattle.rule_terms.specs.declared.pattern.CellPat.{CellPat}
 use Rattle.rule_terms.specs.declared.pattern.Body.{Body, Body-F, out-Body, roll-Body, out-roll-Body, roll-out-Body, ind-Body, map-Body}
-use Rattle.rule_terms.specs.declared.pattern.Body.TheOpen.{Cells, Seq, Map, List as Listed, One, Made, CellPat-F}
-use Rattle.rule_terms.specs.declared.pattern.Body.TheFolds.{map-CellPat}
-use Rattle.rule_terms.specs.declared.pattern.Body.TheViews.{roll-CellPat, out-CellPat}
+use Rattle.rule_terms.specs.declared.pattern.Body.TheOpen.{Cells, Seq, Map, List as Listed, One, Made}
+use Rattle.rule_terms.specs.declared.pattern.Body.TheViews.{roll-CellPat}
 use Rattle.rule_terms.specs.contracts.pattern.BodyPartialEq.TheImpl as body
 use Rattle.rule_terms.specs.contracts.pattern.CellPatPartialEq.TheImpl as cell
 use Rattle.rule_terms.specs.contracts.pattern.BodyPartialEq.TheImpl.Laws as body_laws

@@ -91,7 +91,8 @@ fn new_in(body: &Body, side: &CellPat) -> u32
 /// How many of these cells, and of those in them, have such marks.
 #[cycle(counting_new)]
 fn new_among(cells: &[CellPat], side: &CellPat) -> u32
-    ensures { (above : ℕ) → result ≡ min (length (filter (is_beside side.now) (flat_map (spots_under above) cells.now))) (2 ^ 32 - 1) }
+    ensures { (above : ℕ)
+        → result ≡ min (length (filter (is_beside side.now) (flat_map (spots_under above) cells.now))) (2 ^ 32 - 1) }
 {
     let mut count: u32 = 0;
     for cell in cells {
