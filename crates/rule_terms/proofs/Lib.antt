@@ -17,3 +17,7 @@ pub mod BoundFormed
 pub mod Known
 pub mod Sounding
 pub mod ExamplesSound
+pub mod RuleEquality
+pub mod BodyEquality
+pub mod EqualDefs
+pub mod SpotCounts

@@ -11,3 +11,4 @@ pub mod Spots
 pub mod Sound
 pub mod Kinds
 pub mod Laws
+pub mod CellCounts

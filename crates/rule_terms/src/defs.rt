@@ -19,7 +19,7 @@ pub enum Kind {
 
 /// A declared cell. Its number is its place among the declared cells, counted from 0, in pre-order of the declared
 /// configuration. `many` says that it may occur more than once in its parent.
-#[derive(Debug, Drop)]
+#[derive(Debug, Drop, PartialEq, Eq)]
 pub struct CellShape {
     pub name: Text,
     pub parent: Option<u32>,

@@ -3,7 +3,7 @@ use k_terms::{Many, Op, Value};
 /// A term with variables. The number in `Var`, and in each `Option<u32>`, is a variable by its place in the rule's
 /// `vars`, counted from 0; an `Option<u32>` is the variable of the rest, and `None` says that there is no rest. The
 /// numbers in `Node`, `Items` and `Freezer` are those of a `Value`.
-#[derive(Debug, Drop)]
+#[derive(Debug, Drop, PartialEq, Eq)]
 pub enum Pattern {
     Var(u32),
     Lit(Value),
@@ -16,7 +16,7 @@ pub enum Pattern {
 
 /// What a cell of a rule contains. `List` has the items before the rest, the rest, and the items after it. `Made`
 /// stands on a right side alone and gives the whole content by an expression.
-#[derive(Debug, Drop)]
+#[derive(Debug, Drop, PartialEq, Eq)]
 #[cycle(cells)]
 pub enum Body {
     Cells(Many<CellPat>, Option<u32>),
@@ -29,7 +29,7 @@ pub enum Body {
 
 /// A cell of a rule's side: a declared cell by its number, and a mark that it shares with the cell of the other side
 /// that is the same cell.
-#[derive(Debug, Drop)]
+#[derive(Debug, Drop, PartialEq, Eq)]
 #[cycle(cells)]
 pub struct CellPat {
     pub cell: u32,

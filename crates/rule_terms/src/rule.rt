@@ -3,7 +3,7 @@ use k_terms::Many;
 
 /// A condition of a rule: an expression that is to be true, or whether the least sort of a variable's value is below a
 /// sort, or is not.
-#[derive(Debug, Drop)]
+#[derive(Debug, Drop, PartialEq, Eq)]
 pub enum Cond {
     Holds(Pattern),
     IsSort(u32, u32),
@@ -21,7 +21,7 @@ pub enum Origin {
 
 /// A rule. `vars` gives each variable's sort. A left and a right cell with one mark are one cell; a left cell whose mark
 /// is not on the right is removed, and a right cell whose mark is not on the left is new.
-#[derive(Debug, Drop)]
+#[derive(Debug, Drop, PartialEq, Eq)]
 pub struct Rule {
     pub origin: Origin,
     pub vars: Many<u32>,
@@ -31,7 +31,7 @@ pub struct Rule {
 }
 
 /// A rule as it is written, with the cells that it names alone: a forest for each side.
-#[derive(Debug, Drop)]
+#[derive(Debug, Drop, PartialEq, Eq)]
 pub struct Draft {
     pub origin: Origin,
     pub vars: Many<u32>,

@@ -1,0 +1,5 @@
+use Rattle.std.proofs.Common.{◌≡◌, take}
+use Rattle.rule_terms.proofs.copying.+copying_cells.Given as goal
+
+abbrev pub invariant-copy_cells-loop-cell : goal.invariant-copy_cells-loop-cell
+invariant-copy_cells-loop-cell l = l.copies.items ≡ take l.cell-index l.cells

@@ -1,0 +1,6 @@
+pub mod Ranges
+pub mod Searching
+pub mod Outcomes
+pub mod OneCell
+pub mod DraftParts
+pub mod AllSound

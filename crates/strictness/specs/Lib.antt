@@ -1,0 +1,5 @@
+pub mod Places
+pub mod Drafts
+pub mod Heating
+pub mod SoundDrafts
+pub mod Laws
