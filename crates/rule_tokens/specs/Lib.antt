@@ -1,0 +1,6 @@
+pub mod Lookup
+pub mod Signs
+pub mod Forms
+pub mod RuleTokens
+pub mod Splits
+pub mod Laws
