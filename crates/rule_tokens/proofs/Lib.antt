@@ -5,3 +5,4 @@ pub mod Known
 pub mod Reading
 pub mod Splitting
 pub mod Whole
+pub mod Telling

@@ -3,4 +3,6 @@ pub mod Signs
 pub mod Forms
 pub mod RuleTokens
 pub mod Splits
+pub mod Variables
+pub mod Tables
 pub mod Laws

@@ -9,12 +9,15 @@ mod forms;
 pub mod laws;
 mod literals;
 mod signs;
+mod sorts;
 mod split;
+mod table;
 mod terminals;
 #[cfg(test)]
 mod tests;
 mod token;
 mod words;
 
+pub use sorts::{VariableFault, variable_sorts};
 pub use split::{RuleSplit, split_rule};
 pub use token::{RuleKind, RuleToken};
