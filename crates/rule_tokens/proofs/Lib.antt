@@ -6,3 +6,5 @@ pub mod Reading
 pub mod Splitting
 pub mod Whole
 pub mod Telling
+pub mod Deciding
+pub mod Symbols

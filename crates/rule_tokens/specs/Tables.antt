@@ -23,4 +23,4 @@ also written (Some sort) = also_sort written.first written.other sort
 pub record Tells (occurrences : List Occurrence) (entries : List (ℕ × Written)) : Type 0 where
   pub names : map (λ entry. entry.0) entries ≡ with_numbers [] (names_of occurrences)
   pub each : (name : ℕ)
-    → lookup (nat_eq name) entries ≡ (if list_any (λ other. name == other) (names_of occurrences) then Some (summary (written name occurrences)) else None)
+      → lookup (nat_eq name) entries ≡ (if list_any (λ other. name == other) (names_of occurrences) then Some (summary (written name occurrences)) else None)

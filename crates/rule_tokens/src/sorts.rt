@@ -13,7 +13,9 @@ use std::alloc::Global;
 #[derive(Clone, Copy, Debug, PartialEq, Eq)]
 pub enum VariableFault {
     /// Of this variable no sort is written. It is the first such variable of the text.
-    Unsorted { name: Symbol },
+    Unsorted {
+        name: Symbol,
+    },
     /// Of this variable two different sorts are written, these first. It is the first such variable of the text.
     SortClash {
         name: Symbol,
