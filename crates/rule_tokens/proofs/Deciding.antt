@@ -1,12 +1,12 @@
 -- The variables of a rule have sorts in one way, or one fault.
-use Rattle.std.proofs.Common.{◌≡◌, ℕ, Bool, true, false, not, cond, List, [], ◌∷◌, map, refl, sym, ap, subst, ◌∙◌, Option, Some, None, inl, inr}
+use Rattle.std.proofs.Common.{◌≡◌, ℕ, not, cond, List, [], ◌∷◌, map, refl, sym, ap, ◌∙◌, Option, Some, None, inl, inr}
 use Rattle.std.specs.Prelude.{is_some, option_map, unwrap_or, ◌⊎◌}
 use Rattle.std.specs.List.{find}
 use Rattle.k_terms.specs.declared.value.Symbol.{Symbol}
 use Rattle.rule_tokens.specs.declared.sorts.Named.{Named}
 use Rattle.rule_tokens.specs.declared.sorts.VariableFault.{VariableFault}
 use Rattle.rule_tokens.specs.declared.sorts.VariableFault.TheVariants.{Unsorted, SortClash, Memory}
-use Rattle.rule_tokens.specs.Variables.{is_unsorted, is_clash, sorted_name, first_sort, AreSorts, IsVariableFault}
+use Rattle.rule_tokens.specs.Variables.{is_unsorted, sorted_name, first_sort, AreSorts, IsVariableFault}
 
 abbrev heads : List (Symbol × Option ℕ) → Symbol × Option ℕ → Symbol × Option ℕ
 heads [] other = other

@@ -1,6 +1,6 @@
 -- The tokens of base tokens, one after the other.
 use Rattle.std.proofs.Common.{◌≡◌, ℕ, zero, suc, ◌+◌, ◌-◌, ◌<◌, ◌≤◌, Bool, true, false, ◌&&◌, ◌||◌, List, [], ◌∷◌, ◌++◌, length, drop, refl, sym, ap, subst, ◌∙◌, arith, Option, Some, None, length-drop, drop_of_length-le}
-use Rattle.std.specs.Prelude.{if◌then◌else◌, nat_lt, not, codes, unwrap_or, slice_get, option_map}
+use Rattle.std.specs.Prelude.{if◌then◌else◌, nat_lt, not, codes, unwrap_or, option_map}
 use Rattle.std.specs.List.{AllByRecursion}
 use Rattle.std.proofs.lemmas.Bool.{and_parts}
 use Rattle.std.proofs.lemmas.List.{drop-drop}
@@ -9,18 +9,18 @@ use Rattle.k_lexer.specs.declared.token.Kind.TheVariants.{Word as WordToken, Int
 use Rattle.k_lexer.specs.declared.token.Token.{Token}
 use Rattle.k_lexer.specs.Before.{Stands, AllStand}
 use Rattle.production_reader.specs.Lexemes.{span}
-use Rattle.production_reader.specs.Allowed.{is_among, is_sort, same_text}
+use Rattle.production_reader.specs.Allowed.{is_sort, same_text}
 use Rattle.grammar_terms.specs.Grammar.{sort_number}
 use Rattle.program_tokens.specs.Terminals.{AreSame}
 use Rattle.program_tokens.proofs.Reading.{drop_all, choose}
 use Rattle.rule_tokens.specs.declared.signs.Sign.{Sign}
-use Rattle.rule_tokens.specs.declared.signs.Sign.TheVariants.{Word, Mark}
+use Rattle.rule_tokens.specs.declared.signs.Sign.TheVariants.{Word}
 use Rattle.rule_tokens.specs.declared.token.RuleKind.{RuleKind}
-use Rattle.rule_tokens.specs.declared.token.RuleKind.TheVariants.{Open, Close, Rewrite, Then, MapsTo, Dots, Dot, ListItem, Terminal, Literal, Variable}
+use Rattle.rule_tokens.specs.declared.token.RuleKind.TheVariants.{Open, Close, Rewrite, Then, MapsTo, Dots, Dot, Variable}
 use Rattle.rule_tokens.specs.declared.token.RuleToken.{RuleToken}
 use Rattle.rule_tokens.specs.declared.token.Found.{Found}
-use Rattle.rule_tokens.specs.Signs.{marks, fits, ends, bytes_at, end_at}
-use Rattle.rule_tokens.specs.Forms.{Lexicon, found, cell_number, last_place, terminal_size, terminal_of, terminal_at, signs_at, open_at, close_at, empty_at, is_wild, is_variable, name_of, variable_at, sorted_at, list_item_at, literal_as, literal_at, longer, longest, symbol_at, other_at, stands_at}
+use Rattle.rule_tokens.specs.Signs.{marks, fits, ends, bytes_at}
+use Rattle.rule_tokens.specs.Forms.{Lexicon, found, cell_number, last_place, terminal_size, terminal_of, terminal_at, signs_at, open_at, close_at, empty_at, is_wild, is_variable, name_of, variable_at, sorted_at, list_item_at, literal_as, literal_at, longer, longest, symbol_at, stands_at}
 use Rattle.rule_tokens.specs.RuleTokens.{token_of, first_token, AreRuleTokens, IsInside}
 use Rattle.rule_tokens.proofs.Runs.{ends_here, ends-le, end_inside, fits_run, terminal-le}
 

@@ -1,9 +1,8 @@
 -- Adjacent base tokens, and the longest terminal that they make.
-use Rattle.std.proofs.Common.{◌≡◌, ℕ, zero, suc, ◌+◌, ◌-◌, ◌<◌, ◌≤◌, Bool, true, false, ◌==◌, ◌&&◌, List, [], ◌∷◌, length, take, drop, refl, sym, ap, subst, ◌∙◌, arith, rules, Option, Some, None, get_or, drop-cons, add-one, length-append, length-drop, slice_index, eqb}
-use Rattle.std.specs.Prelude.{if◌then◌else◌, slice_get}
+use Rattle.std.proofs.Common.{◌≡◌, ℕ, zero, suc, ◌+◌, ◌-◌, ◌<◌, ◌≤◌, Bool, true, false, ◌==◌, ◌&&◌, List, [], ◌∷◌, length, take, drop, refl, sym, ap, subst, ◌∙◌, arith, rules, None, get_or, drop-cons, add-one, length-append, length-drop}
+use Rattle.std.specs.Prelude.{if◌then◌else◌}
 use Rattle.std.specs.Char.{encode_utf8}
 use Rattle.std.specs.Str.{encode_utf8_all}
-use Rattle.std.specs.List.{AllByRecursion}
 use Rattle.std.proofs.lemmas.Bool.{and_parts}
 use Rattle.std.proofs.lemmas.Bool.Decides.{nat_tests}
 use Rattle.std.proofs.lemmas.List.{length-take-le}
@@ -18,11 +17,10 @@ use Rattle.production_reader.specs.Lexemes.{span}
 use Rattle.production_reader.specs.Allowed.{is_among}
 use Rattle.program_tokens.proofs.Reading.{drop_all}
 use Rattle.rule_tokens.specs.declared.signs.Sign.{Sign}
-use Rattle.rule_tokens.specs.declared.token.Found.{Found}
 use Rattle.rule_tokens.specs.declared.token.RuleKind.TheVariants.{Terminal}
 use Rattle.rule_tokens.specs.Lookup.{AreBoundBy}
 use Rattle.rule_tokens.specs.Signs.{is_sign, fits, ends, end_at}
-use Rattle.rule_tokens.specs.Forms.{found, last_place, terminal_size, terminal_of, terminal_at}
+use Rattle.rule_tokens.specs.Forms.{found, last_place, terminal_size, terminal_of}
 use Rattle.rule_tokens.specs.RuleTokens.{IsWhole}
 
 -- ---- base tokens have bytes

@@ -1,7 +1,6 @@
 -- How a rule is split, and in one way alone.
-use Rattle.std.proofs.Common.{◌≡◌, ℕ, List, [], ◌∷◌, drop, refl, sym, ap, subst, ◌∙◌, Option, Some, None}
+use Rattle.std.proofs.Common.{◌≡◌, ℕ, List, [], ◌∷◌, drop, refl, sym, ap, subst, ◌∙◌, Option, None}
 use Rattle.k_lexer.specs.declared.token.Token.{Token}
-use Rattle.k_lexer.specs.Before.{AllStand}
 use Rattle.grammar_terms.specs.Grammar.{Syntax}
 use Rattle.program_tokens.specs.Terminals.{AreSame, terminals}
 use Rattle.program_tokens.specs.Base.{with_tokens}

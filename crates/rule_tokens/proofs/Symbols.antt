@@ -1,11 +1,10 @@
 -- Identifiers and named variables have the numbers of their words.
-use Rattle.std.proofs.Common.{◌≡◌, ℕ, zero, suc, ◌-◌, ◌<◌, ◌≤◌, Bool, true, false, ◌==◌, ◌&&◌, List, [], ◌∷◌, ◌++◌, length, take, drop, refl, sym, ap, subst, ◌∙◌, arith, Option, Some, None}
-use Rattle.std.specs.Prelude.{is_some, unwrap_or, if◌then◌else◌, codes, option_map, nat_lt, min}
+use Rattle.std.proofs.Common.{◌≡◌, ℕ, zero, suc, ◌-◌, ◌≤◌, Bool, true, false, ◌==◌, ◌&&◌, List, [], ◌∷◌, ◌++◌, take, drop, refl, sym, ap, subst, ◌∙◌, arith, Option, Some, None}
+use Rattle.std.specs.Prelude.{is_some, unwrap_or, if◌then◌else◌, codes, option_map, nat_lt}
 use Rattle.std.specs.List.{AllByRecursion}
 use Rattle.std.proofs.lemmas.Bool.{and_parts}
 use Rattle.std.proofs.lemmas.Bool.Decides.{nat_tests}
 use Rattle.k_terms.specs.Names.{number_of}
-use Rattle.k_terms.specs.declared.value.Symbol.{Symbol}
 use Rattle.k_lexer.specs.declared.token.Kind.{Kind}
 use Rattle.k_lexer.specs.declared.token.Kind.TheVariants.{Word as WordToken, Int, Str, Mark as MarkToken}
 use Rattle.k_lexer.specs.declared.token.Token.{Token}
@@ -15,20 +14,20 @@ use Rattle.production_reader.specs.Allowed.{same_text}
 use Rattle.grammar_terms.specs.Grammar.{Syntax, sort_number}
 use Rattle.grammar_terms.specs.declared.word.Word.{Word as ProgramWord}
 use Rattle.grammar_terms.specs.Values.{literal_of}
-use Rattle.program_tokens.specs.Base.{bytes_of, IsNumbered, AllNumbered, with_tokens}
+use Rattle.program_tokens.specs.Base.{bytes_of, IsNumbered, AllNumbered}
 use Rattle.program_tokens.specs.Words.{other_word}
 use Rattle.program_tokens.proofs.Naming.{IsNumberedAs, all_numbered}
 use Rattle.program_tokens.proofs.Reading.{choose, drop_all}
 use Rattle.rule_terms.specs.declared.defs.CellShape.{CellShape}
 use Rattle.rule_tokens.specs.declared.signs.Sign.{Sign}
-use Rattle.rule_tokens.specs.declared.signs.Sign.TheVariants.{Word, Mark}
+use Rattle.rule_tokens.specs.declared.signs.Sign.TheVariants.{Word}
 use Rattle.rule_tokens.specs.declared.token.RuleKind.{RuleKind}
-use Rattle.rule_tokens.specs.declared.token.RuleKind.TheVariants.{Open, Close, Rewrite, Then, MapsTo, Dots, Dot, ListItem, Terminal, Literal, Variable}
+use Rattle.rule_tokens.specs.declared.token.RuleKind.TheVariants.{Open, Close, Rewrite, Then, MapsTo, Dots, Dot, ListItem, Variable}
 use Rattle.rule_tokens.specs.declared.token.RuleToken.{RuleToken}
 use Rattle.rule_tokens.specs.declared.token.Found.{Found}
 use Rattle.rule_tokens.specs.declared.split.RuleSplit.{RuleSplit}
-use Rattle.rule_tokens.specs.Signs.{marks, fits, ends, bytes_at, end_at, is_word}
-use Rattle.rule_tokens.specs.Forms.{Lexicon, found, cell_number, terminal_size, terminal_of, signs_at, open_at, close_at, empty_at, is_wild, is_variable, name_of, variable_at, sorted_at, list_item_at, literal_as, longer, symbol_at, other_at, stands_at}
+use Rattle.rule_tokens.specs.Signs.{marks, fits, bytes_at, end_at, is_word}
+use Rattle.rule_tokens.specs.Forms.{Lexicon, found, cell_number, terminal_size, terminal_of, is_wild, is_variable, name_of, variable_at, sorted_at, literal_as, longer, symbol_at, stands_at}
 use Rattle.rule_tokens.specs.RuleTokens.{token_of, first_token, AreRuleTokens}
 use Rattle.rule_tokens.specs.Splits.{lexicon_of, IsRuleSplit}
 use Rattle.rule_tokens.specs.Laws.{IsSymbol, IsNameOf, IsNamed}

@@ -1,5 +1,5 @@
 -- A table tells what is written of each variable.
-use Rattle.std.proofs.Common.{◌≡◌, ℕ, zero, suc, ◌+◌, ◌<◌, Bool, true, false, ◌==◌, ◌||◌, not, cond, List, [], ◌∷◌, ◌++◌, map, length, take, get_or, refl, sym, ap, subst, ◌∙◌, arith, rules, append_assoc, append-nil, Option, Some, None, true≢false}
+use Rattle.std.proofs.Common.{◌≡◌, ℕ, ◌+◌, ◌<◌, Bool, true, false, ◌==◌, ◌||◌, not, cond, List, [], ◌∷◌, ◌++◌, map, length, take, get_or, refl, sym, ap, subst, ◌∙◌, rules, append_assoc, append-nil, Option, Some, None, true≢false}
 use Rattle.std.specs.Prelude.{if◌then◌else◌, nat_eq, unwrap_or, slice_get}
 use Rattle.std.specs.List.{find, list_any}
 use Rattle.std.specs.Map.{lookup}
@@ -10,7 +10,7 @@ use Rattle.std.proofs.lemmas.Option.{get_or_from_slice_get, slice_get_within, sl
 use Rattle.indexmap.specs.IndexMap.{insert_entry}
 use Rattle.rule_tokens.specs.declared.table.Written.{Written}
 use Rattle.rule_tokens.specs.declared.sorts.Named.{Named}
-use Rattle.rule_tokens.specs.Variables.{Occurrence, names_of, sort_in, written, first_of, other_of, with_number, with_numbers, variable_of}
+use Rattle.rule_tokens.specs.Variables.{Occurrence, names_of, sort_in, written, with_number, with_numbers, variable_of}
 use Rattle.rule_tokens.specs.Tables.{summary, also, also_sort, Tells}
 
 same_number : (one other : ℕ) → (one == other) ≡ true → one ≡ other

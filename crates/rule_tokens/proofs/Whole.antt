@@ -1,5 +1,5 @@
 -- The tokens of a text are the longest at their places.
-use Rattle.std.proofs.Common.{◌≡◌, ℕ, zero, suc, ◌+◌, ◌-◌, List, [], ◌∷◌, ◌++◌, length, take, drop, subst, arith}
+use Rattle.std.proofs.Common.{◌≡◌, ℕ, zero, suc, ◌+◌, ◌-◌, List, [], ◌∷◌, ◌++◌, length, take, drop, sym, subst, arith}
 use Rattle.std.specs.List.{AllByRecursion}
 use Rattle.k_lexer.specs.declared.token.Token.{Token}
 use Rattle.k_lexer.specs.Tokens.{IsLongest}
@@ -31,4 +31,11 @@ pub whole_tokens : (text : List ℕ) (tokens : List Token) (first size : ℕ) �
 whole_tokens text tokens first size are = (
   take_all (Stands text) size (drop first tokens) (drop_all (Stands text) first tokens (all_stand text tokens (length text) are.whole)),
   take_all (IsWhole text) size (drop first tokens) (drop_all (IsWhole text) first tokens (all_whole text tokens (length text) are.whole)),
+)
+
+-- all of them
+pub text_tokens : (text : List ℕ) (tokens seen : List Token) → AreTokens text tokens → seen ≡ tokens → AllStand text seen × AllWhole text seen
+text_tokens text tokens seen are is = (
+  subst (AllStand text) (sym is) (all_stand text tokens (length text) are.whole),
+  subst (AllWhole text) (sym is) (all_whole text tokens (length text) are.whole),
 )

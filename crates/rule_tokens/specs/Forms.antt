@@ -1,10 +1,10 @@
 -- What can stand at a place of a rule.
-use Rattle.std.specs.Prelude.{ℕ, ◌+◌, ◌-◌, ◌==◌, ◌&&◌, ◌||◌, not, nat_lt, min, pos, zero, suc, Bool, true, false, if◌then◌else◌, List, [], ◌∷◌, ◌++◌, map, length, codes, Option, Some, None, option_map, unwrap_or}
+use Rattle.std.specs.Prelude.{ℕ, ◌&&◌, ◌||◌, not, nat_lt, min, pos, zero, suc, Bool, if◌then◌else◌, List, [], ◌∷◌, ◌++◌, length, codes, Option, Some, None, unwrap_or}
 use Rattle.std.specs.Str.{bytes_eq}
 use Rattle.std.specs.List.{position_from}
 use Rattle.k_terms.specs.Names.{number_of}
 use Rattle.k_terms.specs.declared.value.Symbol.{Symbol}
-use Rattle.k_terms.specs.declared.value.Value.{Value, Int as Number, Str as Text}
+use Rattle.k_terms.specs.declared.value.Value.{Int as Number, Str as Text}
 use Rattle.k_lexer.specs.declared.token.Kind.{Kind}
 use Rattle.k_lexer.specs.declared.token.Kind.TheVariants.{Word as WordToken, Int, Str, Mark as MarkToken}
 use Rattle.k_lexer.specs.declared.token.Token.{Token}
@@ -15,7 +15,7 @@ use Rattle.grammar_terms.specs.Values.{literal_of}
 use Rattle.program_tokens.specs.Base.{bytes_of}
 use Rattle.program_tokens.specs.Words.{greatest, other_word}
 use Rattle.rule_tokens.specs.declared.signs.Sign.{Sign}
-use Rattle.rule_tokens.specs.declared.signs.Sign.TheVariants.{Word, Mark}
+use Rattle.rule_tokens.specs.declared.signs.Sign.TheVariants.{Word}
 use Rattle.rule_tokens.specs.declared.token.RuleKind.{RuleKind}
 use Rattle.rule_tokens.specs.declared.token.RuleKind.TheVariants.{Open, Close, Rewrite, Then, MapsTo, Dots, Dot, ListItem, Terminal, Literal, Variable}
 use Rattle.rule_tokens.specs.declared.token.Found.{Found}

@@ -1,5 +1,5 @@
 -- The tokens of a rule.
-use Rattle.std.specs.Prelude.{◌≡◌, ◌<◌, ◌≤◌, ℕ, ◌-◌, ◌&&◌, Bool, true, false, List, [], ◌∷◌, length, take, drop, Option, Some, None, option_map}
+use Rattle.std.specs.Prelude.{◌≡◌, ◌<◌, ◌≤◌, ℕ, ◌-◌, ◌&&◌, Bool, true, false, List, [], ◌∷◌, length, drop, Option, Some, None, option_map}
 use Rattle.std.specs.List.{find, AllByRecursion}
 use Rattle.k_terms.specs.declared.value.Value.{Value, Int, Bool as Truth, Str, Id, Node', Items', Seq', Map', List', Freezer'}
 use Rattle.k_lexer.specs.declared.token.Token.{Token}

@@ -1,5 +1,5 @@
 -- The text of a rule as tokens.
-use Rattle.std.specs.Prelude.{◌≡◌, ℕ, List, map, Option, None}
+use Rattle.std.specs.Prelude.{◌≡◌, ℕ, List, map, None}
 use Rattle.k_lexer.specs.declared.token.Token.{Token}
 use Rattle.grammar_terms.specs.Grammar.{Syntax}
 use Rattle.program_tokens.specs.Terminals.{terminals}

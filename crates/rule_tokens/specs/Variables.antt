@@ -1,5 +1,5 @@
 -- The named variables of a rule, and the sorts that are written of them.
-use Rattle.std.specs.Prelude.{◌≡◌, ℕ, ◌==◌, not, Bool, true, false, if◌then◌else◌, List, [], ◌∷◌, ◌++◌, map, Option, Some, None, is_some, option_map}
+use Rattle.std.specs.Prelude.{◌≡◌, ℕ, ◌==◌, not, Bool, if◌then◌else◌, List, [], ◌∷◌, ◌++◌, map, Option, Some, None, is_some, option_map}
 use Rattle.std.specs.List.{find, list_any, flat_map}
 use Rattle.k_terms.specs.declared.value.Symbol.{Symbol}
 use Rattle.rule_tokens.specs.declared.token.RuleKind.{RuleKind}

@@ -1,3 +1,5 @@
+ghost use Rattle.std.specs.Prelude.{◌≤◌, length, IfOk};
+
 use crate::{RuleKind, RuleSplit, RuleToken, VariableFault, split_rule, variable_sorts};
 use grammar_terms::{Grammar, Part, Production};
 use k_lexer::tokens;
@@ -36,14 +38,24 @@ fn production(alloc: Global, terminals: &[&str]) -> Result<Production, Fail> {
     })
 }
 
-/// A grammar with the built-in sorts and Exp, and with some terminals of its own and some builtin ones.
-fn grammar(alloc: Global) -> Result<Grammar, Fail> {
+/// The built-in sorts and Exp.
+fn sorts(alloc: Global) -> Result<Many<Text>, Fail>
+    ensures { IfOk result (λ names. length names ≤ 11) }
+{
     let mut names = Many::new(alloc);
     for name in [
         "K", "KItem", "KResult", "Int", "Bool", "String", "Id", "Map", "List", "Bag", "Exp",
     ] {
         names.push(text_of(alloc, name)?)?;
     }
+    if names.len() > 11 {
+        return Ok(Many::new(alloc));
+    }
+    Ok(names)
+}
+
+/// A grammar with these sorts, and with some terminals of its own and some builtin ones.
+fn grammar(alloc: Global) -> Result<Grammar, Fail> {
     let mut prods = Many::new(alloc);
     prods.push(production(alloc, &["=", "==", ";", "if", "Skip", "{", "}", ","])?)?;
     prods.push(production(
@@ -51,11 +63,13 @@ fn grammar(alloc: Global) -> Result<Grammar, Fail> {
         &["+", "+Int", "<", "<Int", "<=Int", "=/=Int", "notBool"],
     )?)?;
     prods.push(production(alloc, &["(", ")", "[", "<-", "]", "in", "keys", "::"])?)?;
-    Ok(Grammar::new(alloc, names, prods)?)
+    Ok(Grammar::new(alloc, sorts(alloc)?, prods)?)
 }
 
 /// The declared cells T, k and state.
-fn cells(alloc: Global) -> Result<Many<CellShape>, Fail> {
+fn cells(alloc: Global) -> Result<Many<CellShape>, Fail>
+    ensures { IfOk result (λ cells. length cells ≤ 3) }
+{
     let mut cells = Many::new(alloc);
     for name in ["T", "k", "state"] {
         cells.push(CellShape {
@@ -64,6 +78,9 @@ fn cells(alloc: Global) -> Result<Many<CellShape>, Fail> {
             many: false,
             kind: Kind::Cells,
         })?;
+    }
+    if cells.len() > 3 {
+        return Ok(Many::new(alloc));
     }
     Ok(cells)
 }
@@ -162,15 +179,10 @@ fn shown(alloc: Global, split: &RuleSplit) -> Result<String, Fail> {
 fn split_of(alloc: Global, names: &mut Names, text: &str) -> Result<RuleSplit, Fail> {
     let grammar = grammar(alloc)?;
     let cells = cells(alloc)?;
-    let base = tokens(alloc, text.as_bytes())?;
-    Ok(split_rule(
-        alloc,
-        &grammar,
-        cells.as_slice(),
-        names,
-        text.as_bytes(),
-        &base,
-    )?)
+    let bytes = text.as_bytes();
+    let base = tokens(alloc, bytes)?;
+    let split = split_rule(alloc, &grammar, cells.as_slice(), names, bytes, &base)?;
+    Ok(split)
 }
 
 /// The tokens of a text, whose words are numbered behind the word `x`.

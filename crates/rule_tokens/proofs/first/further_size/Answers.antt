@@ -1,4 +1,4 @@
-use Rattle.std.proofs.Common.{rules, arith, ap, subst, sym, ◌∙◌, ◌≤◌, ◌-◌, length, get_or, drop, ◌+◌}
+use Rattle.std.proofs.Common.{arith, ap, ◌∙◌, ◌+◌}
 use Rattle.std.specs.Prelude.{if◌then◌else◌}
 use Rattle.rule_tokens.proofs.Runs.{stops_past, goes_on, token_at}
 use Rattle.rule_tokens.proofs.first.further_size.Goals as goal

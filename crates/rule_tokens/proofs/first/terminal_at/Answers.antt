@@ -1,5 +1,4 @@
-use Rattle.std.proofs.Common.{arith, ap, sym, ◌∙◌, ◌<◌, ◌≤◌, ◌-◌, length}
-use Rattle.rule_tokens.specs.Signs.{end_at}
+use Rattle.std.proofs.Common.{arith}
 use Rattle.rule_tokens.proofs.Runs.{terminal_inside}
 use Rattle.rule_tokens.proofs.first.terminal_at.Goals as goal
 

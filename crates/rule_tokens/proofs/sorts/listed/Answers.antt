@@ -1,4 +1,3 @@
-use Rattle.std.proofs.Common.{sym}
 use Rattle.rule_tokens.proofs.Telling.{listed_more}
 use Rattle.rule_tokens.proofs.sorts.listed.Goals as goal
 

@@ -1,4 +1,4 @@
-use Rattle.std.proofs.Common.{◌≡◌, map, take, drop, None}
+use Rattle.std.proofs.Common.{◌≡◌, map, take, drop}
 use Rattle.std.specs.List.{find}
 use Rattle.rule_tokens.specs.Variables.{is_unsorted, sorted_name, first_sort}
 use Rattle.rule_tokens.proofs.sorts.sorts_of.Given as goal
