@@ -19,5 +19,6 @@ mod token;
 mod words;
 
 pub use sorts::{VariableFault, variable_sorts};
-pub use split::{RuleSplit, split_rule};
+pub use split::{RuleSplit, split_rule, split_rule_by};
+pub use terminals::Terminals;
 pub use token::{RuleKind, RuleToken};

@@ -4,6 +4,7 @@ ghost use Rattle.std.specs.List.{AllByRecursion};
 ghost use Rattle.k_lexer.specs.Before.{Stands, AllStand};
 ghost use Rattle.program_tokens.specs.Base.{AllNumbered, with_tokens, GoesOn};
 ghost use Rattle.program_tokens.specs.Splits.{first_place};
+ghost use Rattle.program_tokens.specs.Terminals.{AreSame, terminals as terminals_of_grammar};
 ghost use Rattle.rule_tokens.specs.RuleTokens.{AllWhole, AreRuleTokens, first_token as token_first, is_integer as integer, is_number as number_kind, is_wide as wide, first_wide as wide_first, IsInside};
 ghost use Rattle.rule_tokens.specs.Splits.{IsRuleSplit, lexicon_with};
 
@@ -112,12 +113,14 @@ fn read_tokens(
 /// The tokens of base tokens whose words are numbered.
 fn split_numbered(
     alloc: Global,
+    terminals: &Terminals<'_>,
     grammar: &Grammar,
     cells: &[CellShape],
     names: &Names,
     text: &[u8],
     tokens: &[Token],
 ) -> Result<RuleSplit, Memory>
+    requires same { AreSame terminals.now (terminals_of_grammar grammar.now) }
     requires few { length cells.now ≤ 2 ^ 32 }
     requires stand { AllStand text.now tokens.now }
     requires whole { AllWhole text.now tokens.now }
@@ -125,8 +128,7 @@ fn split_numbered(
     ensures split { IfOk result (λ found. (before : List (List ℕ)) → names.now ≡ with_tokens text.now before tokens.now → IsRuleSplit grammar.now cells.now before text.now tokens.now names.now found) }
     ensures inside { IfOk result (λ found. AllByRecursion (IsInside text.now) found.tokens) }
 {
-    let terminals = Terminals::new(alloc, grammar)?;
-    let (found, at) = read_tokens(alloc, &terminals, grammar, cells, names, text, tokens)?;
+    let (found, at) = read_tokens(alloc, terminals, grammar, cells, names, text, tokens)?;
     let wide = first_wide(text, found.as_slice());
     Ok(RuleSplit {
         tokens: found,
@@ -135,7 +137,31 @@ fn split_numbered(
     })
 }
 
-/// The text of a rule, given by its base tokens, as tokens. Its words are added to the names, on `Err` some of them.
+/// The text of a rule, given by its base tokens, as tokens, with the terminals of the grammar at hand. Its words are added to
+/// the names, on `Err` some of them.
+pub fn split_rule_by(
+    alloc: Global,
+    terminals: &Terminals<'_>,
+    grammar: &Grammar,
+    cells: &[CellShape],
+    names: &mut Names,
+    text: &[u8],
+    tokens: &[Token],
+) -> Result<RuleSplit, Memory>
+    requires same { AreSame terminals.now (terminals_of_grammar grammar.now) }
+    requires few { length cells.now ≤ 2 ^ 32 }
+    requires stand { AllStand text.now tokens.now }
+    requires whole { AllWhole text.now tokens.now }
+    ensures ok { IfOk result (λ found. IsRuleSplit grammar.now cells.now names.old text.now tokens.now names.new found) }
+    ensures inside { IfOk result (λ found. AllByRecursion (IsInside text.now) found.tokens) }
+    ensures names { GoesOn names.old names.new }
+{
+    number_tokens(alloc, names, text, tokens)?;
+    split_numbered(alloc, terminals, grammar, cells, names, text, tokens)
+}
+
+/// The text of a rule, given by its base tokens, as tokens. Its words are added to the names, on `Err` some of them. For many
+/// rules of one grammar take `split_rule_by`.
 pub fn split_rule(
     alloc: Global,
     grammar: &Grammar,
@@ -151,6 +177,6 @@ pub fn split_rule(
     ensures inside { IfOk result (λ found. AllByRecursion (IsInside text.now) found.tokens) }
     ensures names { GoesOn names.old names.new }
 {
-    number_tokens(alloc, names, text, tokens)?;
-    split_numbered(alloc, grammar, cells, names, text, tokens)
+    let terminals = Terminals::new(alloc, grammar)?;
+    split_rule_by(alloc, &terminals, grammar, cells, names, text, tokens)
 }

@@ -14,7 +14,7 @@ use std::marker::Model;
 
 /// The terminals of a grammar, each once, and how many bytes the longest of them has that is no word.
 #[derive(Drop)]
-pub(crate) struct Terminals<'g> {
+pub struct Terminals<'g> {
     texts: IndexSet<&'g [u8]>,
     greatest: usize,
 }
@@ -43,7 +43,7 @@ fn other_size(text: &[u8]) -> usize
 
 impl<'g> Terminals<'g> {
     /// The terminals of a grammar. The time is linear in their bytes.
-    pub(crate) fn new(alloc: Global, grammar: &'g Grammar) -> Result<Terminals<'g>, Memory>
+    pub fn new(alloc: Global, grammar: &'g Grammar) -> Result<Terminals<'g>, Memory>
         ensures { IfOk result (λ found. AreSame found (terminals grammar.now)) }
     {
         let mut found = Terminals {

@@ -1,7 +1,7 @@
 use Rattle.std.proofs.Common.{sym, subst}
 use Rattle.program_tokens.specs.Base.{AllNumbered, GoesOn}
 use Rattle.program_tokens.proofs.Naming.{all_numbered, tokens_go}
-use Rattle.rule_tokens.proofs.split.split_rule.Goals as goal
+use Rattle.rule_tokens.proofs.split.split_rule_by.Goals as goal
 
 pub split_numbered-requires-clause-numbered : goal.split_numbered-requires-clause-numbered
 split_numbered-requires-clause-numbered c =
