@@ -78,11 +78,11 @@ empty_at sorts text at tokens =
 
 -- ---- words
 
--- `_` stands for a variable without a name
+-- `_` gives a variable no name
 abbrev pub is_wild : List ℕ → Bool
 is_wild word = same_text word (codes "_")
 
--- a word names a variable where it begins with A to Z and is no terminal
+-- a word stands for a variable where it is `_`, or begins with A to Z and is no terminal
 abbrev pub is_variable : List (List ℕ) → List ℕ → Bool
 is_variable terminals word = is_wild word || is_sort word && not (is_among terminals word)
 
