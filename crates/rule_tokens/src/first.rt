@@ -22,7 +22,8 @@ use k_terms::{Memory, Names, Text};
 use rule_terms::CellShape;
 use std::alloc::Global;
 
-/// The size of the longest terminal at a place, where the last base tokens that made one were `size`, and the next makes
+/// The size of the longest terminal at a place, where the last base tokens that made one were `size`, and the next
+/// makes
 /// one or not.
 fn size_with(makes: bool, size: usize, place: usize) -> usize
     requires { place + 1 < 2 ^ 64 }

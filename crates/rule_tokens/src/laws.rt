@@ -11,7 +11,8 @@ pub fn rule_symbols()
     ensures { HasRuleSymbols }
 {}
 
-/// The tokens of a text, or a run of them, are what a rule is split from: they stand in it, and are the longest at their
+/// The tokens of a text, or a run of them, are what a rule is split from: they stand in it, and are the longest at
+/// their
 /// places.
 pub fn whole_tokens()
     ensures { HasWholeTokens }

@@ -1,6 +1,7 @@
 //! The text of a rule as tokens, and the sorts of its variables.
 //!
-//! A token of a rule is made of whole base tokens that stand directly behind one another. At each place the longest token is
+//! A token of a rule is made of whole base tokens that stand directly behind one another. At each place the longest
+//! token is
 //! taken that can stand there, and a terminal of the grammar where it is as long as another.
 #![tactic(auto)]
 

@@ -139,7 +139,8 @@ fn sorts_of(alloc: Global, variables: &[Named]) -> Result<Many<(Symbol, u32)>, M
     Ok(found)
 }
 
-/// The named variables among tokens in the order of their first occurrences, each with the one sort that is written of it.
+/// The named variables among tokens in the order of their first occurrences, each with the one sort that is written
+/// of it.
 pub fn variable_sorts(
     alloc: Global,
     tokens: &[RuleToken],

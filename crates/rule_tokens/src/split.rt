@@ -26,7 +26,8 @@ pub struct RuleSplit {
     pub tokens: Many<RuleToken>,
     /// The first place at which no token can stand.
     pub bad: Option<usize>,
-    /// The place of the first of the tokens that is a number above the greatest. It stands among the tokens as the greatest.
+    /// The place of the first of the tokens that is a number above the greatest. It stands among the tokens as the
+    /// greatest.
     pub wide: Option<usize>,
 }
 
@@ -137,7 +138,8 @@ fn split_numbered(
     })
 }
 
-/// The text of a rule, given by its base tokens, as tokens, with the terminals of the grammar at hand. Its words are added to
+/// The text of a rule, given by its base tokens, as tokens, with the terminals of the grammar at hand. Its words are
+/// added to
 /// the names, on `Err` some of them.
 pub fn split_rule_by(
     alloc: Global,
@@ -160,7 +162,8 @@ pub fn split_rule_by(
     split_numbered(alloc, terminals, grammar, cells, names, text, tokens)
 }
 
-/// The text of a rule, given by its base tokens, as tokens. Its words are added to the names, on `Err` some of them. For many
+/// The text of a rule, given by its base tokens, as tokens. Its words are added to the names, on `Err` some of them.
+/// For many
 /// rules of one grammar take `split_rule_by`.
 pub fn split_rule(
     alloc: Global,

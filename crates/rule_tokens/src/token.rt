@@ -23,7 +23,8 @@ pub enum RuleKind {
     Terminal(Text),
     /// A literal, or an identifier by its symbol.
     Literal(Value),
-    /// A variable with the symbol of its word, where that is not `_`, and with the number of its sort, where that is written.
+    /// A variable with the symbol of its word, where that is not `_`, and with the number of its sort, where that is
+    /// written.
     Variable {
         name: Option<Symbol>,
         sort: Option<u32>,
