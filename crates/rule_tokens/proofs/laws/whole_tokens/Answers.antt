@@ -1,0 +1,5 @@
+use Rattle.rule_tokens.proofs.Whole.{whole_tokens}
+use Rattle.rule_tokens.proofs.laws.whole_tokens.Goals as goal
+
+pub returns : goal.returns
+returns c = whole_tokens
