@@ -2,11 +2,14 @@
 //! reading of a program's tokens is, and what its value is.
 #![tactic(auto)]
 
+mod builtin;
+mod copies;
 mod edges;
 mod grammar;
 mod labels;
 pub mod laws;
 mod production;
+mod rule_grammar;
 mod shape;
 mod sort_steps;
 mod word;
