@@ -7,7 +7,7 @@ use Rattle.grammar_terms.proofs.Cutting.{has_left, has_right, has_either}
 use Rattle.span_table.specs.declared.row.Key.{Key}
 use Rattle.span_table.specs.declared.row.Row.{Row}
 use Rattle.span_table.specs.declared.sign.Sign.{Sign}
-use Rattle.span_table.specs.Rows.{row, HasTwoOf, Kept, Adds, Extends, IsMade, IsJoin}
+use Rattle.span_table.specs.Rows.{row, HasTwoOf, Kept, Adds, Extends, Joins, Grows, IsMade, IsJoin}
 
 pub has_at : {X : Type 0} (xs : List X) (i : ℕ) (d : X) → i < length xs → Has xs (get_or xs i d)
 has_at [] i d within = absurd (omega arith)
@@ -79,6 +79,10 @@ adds_as S U before after into from added = record {
   covers = λ x is. added.covers x (from x is);
 }
 
+-- what one set has, and then what another has
+pub adds_or : (S T : Row → Type 0) (one two three : List Row) → Adds S one two → Adds T two three → Adds (λ x. S x ⊎ T x) one three
+adds_or S T one two three before now = adds_both S T (λ x. S x ⊎ T x) one two three (λ x is. inl is) (λ x is. inr is) (λ x is. is) before now
+
 -- what was made apart was added
 pub adds_through : (S : Row → Type 0) (made before after : List Row) → Adds S [] made → Adds (Has made) before after → Adds S before after
 adds_through S made before after first second = record {
@@ -120,13 +124,26 @@ adds_first S fronts rows = adds_none (IsMade S (take 0 fronts)) rows (λ x made.
 pub adds_done : (S : Row → Row → Type 0) (fronts : List Row) (i : ℕ) (before after : List Row) → length fronts ≤ i → Adds (IsMade S (take i fronts)) before after → Adds (IsMade S fronts) before after
 adds_done S fronts i before after past added = subst (λ rows. Adds (IsMade S rows) before after) (take_all i fronts past) added
 
+-- what some children make with a front as its next item, and then as a part of a sequence
+pub adds_grown : (g : Syntax) (front : Row) (children one two three : List Row) → Adds (IsMade (Extends g front) children) one two → Adds (IsMade (Joins g front) children) two three
+    → Adds (IsMade (Grows g front) children) one three
+adds_grown g front children one two three before now =
+    adds_both (IsMade (Extends g front) children) (IsMade (Joins g front) children) (IsMade (Grows g front) children) one two three
+    (λ x made. record { front = made.front; has_front = made.has_front; makes = inl made.makes })
+    (λ x made. record { front = made.front; has_front = made.has_front; makes = inr made.makes })
+    (λ x made. elim made.makes [
+      | inl extends ↦ inl (record { front = made.front; has_front = made.has_front; makes = extends })
+      | inr joins ↦ inr (record { front = made.front; has_front = made.has_front; makes = joins })
+    ])
+    before now
+
 -- each of some rows with each of others
-pub adds_join : (g : Syntax) (fronts children before after : List Row) → Adds (IsMade (λ front. IsMade (Extends g front) children) fronts) before after
+pub adds_join : (g : Syntax) (fronts children before after : List Row) → Adds (IsMade (λ front. IsMade (Grows g front) children) fronts) before after
     → Adds (IsJoin g fronts children) before after
 adds_join g fronts children before after added =
-    adds_as (IsMade (λ front. IsMade (λ child. Extends g front child) children) fronts) (IsJoin g fronts children) before after
-    (λ x made. record { front = made.front; child = made.makes.front; has_front = made.has_front; has_child = made.makes.has_front; extends = made.makes.makes })
-    (λ x join. record { front = join.front; has_front = join.has_front; makes = record { front = join.child; has_front = join.has_child; makes = join.extends } })
+    adds_as (IsMade (λ front. IsMade (λ child. Grows g front child) children) fronts) (IsJoin g fronts children) before after
+    (λ x made. record { front = made.front; child = made.makes.front; has_front = made.has_front; has_child = made.makes.has_front; grows = made.makes.makes })
+    (λ x join. record { front = join.front; has_front = join.has_front; makes = record { front = join.child; has_front = join.has_child; makes = join.grows } })
     added
 
 pub has_same : (rows : List Row) (one made : Row) → one.key ≡ made.key → one.code ≡ made.code → Has rows one → Has rows made

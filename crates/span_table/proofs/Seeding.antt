@@ -1,4 +1,4 @@
--- The first rows of productions.
+-- Rows that productions make, one by one.
 use Rattle.std.proofs.Common.{ℕ, ◌+◌, ◌-◌, ◌<◌, ◌≤◌, ◌≡◌, inl, inr, true, false, cond, List, [], length, get_or, Some, None, slice_get, sym, ap, ◌∙◌, subst, arith}
 use Rattle.std.specs.Prelude.{◌==◌}
 use Rattle.std.proofs.Math.Nat.{eq-or-lt_of_le}
@@ -7,19 +7,16 @@ use Rattle.std.proofs.lemmas.Bool.Decides.{nat_tests}
 use Rattle.std.proofs.lemmas.Option.{slice_get-get_or, slice_get_within}
 use Rattle.grammar_terms.specs.declared.production.Production.{Production}
 use Rattle.grammar_terms.specs.Grammar.{Syntax, production_at}
-use Rattle.span_table.specs.declared.row.Held.TheVariants.{Nothing}
-use Rattle.span_table.specs.declared.row.Key.TheVariants.{Front}
 use Rattle.span_table.specs.declared.row.Row.{Row}
-use Rattle.span_table.specs.Steps.{is_read}
-use Rattle.span_table.specs.Rows.{row, Adds, IsSeed, IsSeedOf}
+use Rattle.span_table.specs.Rows.{Adds, IsOfSome}
 use Rattle.span_table.proofs.Adding.{adds_none, adds_both, adds_as}
 
 some_same : {X : Type 0} (x y : X) → Some x ≡ Some y → x ≡ y
 some_same x y same = cc
 
--- that of a production up to a number
-abbrev pub SeedUpTo : Syntax → ℕ → Row → Type 0
-SeedUpTo g count made = (seed : IsSeed g made) × (seed.p ≤ count)
+-- what a production up to a number makes
+abbrev pub UpTo : Syntax → (ℕ → Production → Row → Type 0) → ℕ → Row → Type 0
+UpTo g S count made = (some : IsOfSome g S made) × (some.p ≤ count)
 
 production_here : (prods : List Production) (i : ℕ) (production : Production) → i < length prods → production ≡ get_or prods i production → production_at prods (i + 1) ≡ Some production
 production_here prods i production within is =
@@ -39,28 +36,26 @@ production_within prods p production is = elim (cases_eq p 0) [
       omega (arith, slice_get_within prods (p - 1) production there)
 ]
 
-pub seeds_none : (g : Syntax) → Adds (SeedUpTo g 0) [] []
-seeds_none g = adds_none (SeedUpTo g 0) []
-    (λ x up. let zero_p : up.0.p ≡ 0 = omega (arith, up.1) in production_at_none g.prods up.0.production (subst (λ p. production_at g.prods p ≡ Some up.0.production) zero_p up.0.is_there))
+module _ (g : Syntax) (S : ℕ → Production → Row → Type 0) where
+  pub some_none : (rows : List Row) → Adds (UpTo g S 0) rows rows
+  some_none rows = adds_none (UpTo g S 0) rows
+      (λ x up. let zero_p : up.0.p ≡ 0 = omega (arith, up.1) in production_at_none g.prods up.0.production (subst (λ p. production_at g.prods p ≡ Some up.0.production) zero_p up.0.is_there))
 
-pub seeds_next : (g : Syntax) (i : ℕ) (production : Production) (one two three : List Row) → i < length g.prods → production ≡ get_or g.prods i production
-    → Adds (SeedUpTo g i) one two → Adds (IsSeedOf (i + 1) production) two three → Adds (SeedUpTo g (i + 1)) one three
-seeds_next g i production one two three within is before now =
-    let here = production_here g.prods i production within is in
-    adds_both (SeedUpTo g i) (IsSeedOf (i + 1) production) (SeedUpTo g (i + 1)) one two three
-    (λ x up. (up.0, omega (arith, up.1)))
-    (λ x seed. (record { p = i + 1; production = production; is_there = here; is_read = seed.is_read; is = seed.is }, omega arith))
-    (λ x up. elim (eq-or-lt_of_le up.1) [
-      | inl same ↦
-          let same_production : up.0.production ≡ production = some_same up.0.production production (sym up.0.is_there ∙ ap (production_at g.prods) same ∙ here) in
-          inr (record {
-            is_read = subst (λ q. is_read q ≡ true) same_production up.0.is_read;
-            is = up.0.is ∙ ap (λ p. row (Front p 0 Nothing) []) same;
-          })
-      | inr less ↦ inl (up.0, omega (arith, less))
-    ])
-    before now
+  pub some_next : (i : ℕ) (production : Production) (one two three : List Row) → i < length g.prods → production ≡ get_or g.prods i production
+      → Adds (UpTo g S i) one two → Adds (S (i + 1) production) two three → Adds (UpTo g S (i + 1)) one three
+  some_next i production one two three within is before now =
+      let here = production_here g.prods i production within is in
+      adds_both (UpTo g S i) (S (i + 1) production) (UpTo g S (i + 1)) one two three
+      (λ x up. (up.0, omega (arith, up.1)))
+      (λ x made. (record { p = i + 1; production = production; is_there = here; makes = made }, omega arith))
+      (λ x up. elim (eq-or-lt_of_le up.1) [
+        | inl same ↦
+            let same_production : up.0.production ≡ production = some_same up.0.production production (sym up.0.is_there ∙ ap (production_at g.prods) same ∙ here) in
+            inr (subst (λ p. S p production x) same (subst (λ q. S up.0.p q x) same_production up.0.makes))
+        | inr less ↦ inl (up.0, omega (arith, less))
+      ])
+      before now
 
-pub seeds_all : (g : Syntax) (i : ℕ) (before after : List Row) → length g.prods ≤ i → Adds (SeedUpTo g i) before after → Adds (IsSeed g) before after
-seeds_all g i before after past added =
-    adds_as (SeedUpTo g i) (IsSeed g) before after (λ x up. up.0) (λ x seed. (seed, let w = production_within g.prods seed.p seed.production seed.is_there in omega arith)) added
+  pub some_all : (i : ℕ) (before after : List Row) → length g.prods ≤ i → Adds (UpTo g S i) before after → Adds (IsOfSome g S) before after
+  some_all i before after past added =
+      adds_as (UpTo g S i) (IsOfSome g S) before after (λ x up. up.0) (λ x some. (some, let w = production_within g.prods some.p some.production some.is_there in omega arith)) added

@@ -1,18 +1,23 @@
 -- Rows of the table, and how one comes from others.
-use Rattle.std.specs.Prelude.{◌≡◌, ◌⊎◌, ℕ, Bool, true, false, cond, ◌==◌, List, [], ◌++◌, Option, Some}
-use Rattle.k_terms.specs.Sorts.{Below, sort_kitem}
+use Rattle.std.specs.Prelude.{◌≡◌, ◌⊎◌, ℕ, Bool, true, false, cond, ◌==◌, List, [], ◌∷◌, ◌++◌, codes, Option, Some, None}
+use Rattle.k_terms.specs.Sorts.{sort_k, sort_kitem}
+use Rattle.production_reader.specs.declared.prod.Form.TheVariants.{UserList}
 use Rattle.grammar_terms.specs.declared.production.Production.{Production}
 use Rattle.grammar_terms.specs.declared.word.Word.{Word}
+use Rattle.grammar_terms.specs.declared.word.WordKind.TheVariants.{Variable}
 use Rattle.grammar_terms.specs.Cuts.{Has}
-use Rattle.grammar_terms.specs.Grammar.{Syntax, production_at, order_of}
-use Rattle.grammar_terms.specs.Reading.{IsTerminalAt, item_sort, may_stand}
+use Rattle.grammar_terms.specs.Grammar.{Syntax, production_at}
+use Rattle.grammar_terms.specs.Reading.{IsTerminalAt, IsWordAt, Fits, item_sort, may_stand}
+use Rattle.span_table.specs.declared.row.Class.{Class}
+use Rattle.span_table.specs.declared.row.Class.TheVariants.{Lone, Wild as WildClass, Other}
 use Rattle.span_table.specs.declared.row.Held.{Held}
-use Rattle.span_table.specs.declared.row.Held.TheVariants.{Nothing}
+use Rattle.span_table.specs.declared.row.Held.TheVariants.{Nothing, More}
 use Rattle.span_table.specs.declared.row.Key.{Key}
-use Rattle.span_table.specs.declared.row.Key.TheVariants.{Front, Whole, Token}
+use Rattle.span_table.specs.declared.row.Key.TheVariants.{Front, Whole, Token, Wild, Sequence}
 use Rattle.span_table.specs.declared.row.Row.{Row}
 use Rattle.span_table.specs.declared.sign.Sign.{Sign}
-use Rattle.span_table.specs.Steps.{sort_wanted, text_wanted, count_after, held_with, whole_class, whole_code, is_read}
+use Rattle.span_table.specs.declared.sign.Sign.TheVariants.{Open, Leaf as LeafSign, Items as ItemsSign, ItemsAnd}
+use Rattle.span_table.specs.Steps.{sort_wanted, text_wanted, count_after, held_with, is_nothing, whole_class, whole_code, is_read}
 
 abbrev pub row : Key → List Sign → Row
 row key code = record { key = key; code = code }
@@ -42,18 +47,20 @@ pub record Adds (S : Row → Type 0) (before after : List Row) : Type 0 where
   pub within : (made : Row) → Has after made → Has before made ⊎ S made
   pub covers : (made : Row) → S made → Kept after made
 
--- the first row of a production, before its first item
-pub record IsSeed (g : Syntax) (made : Row) : Type 0 where
+-- what one of the productions makes
+pub record IsOfSome (g : Syntax) (S : ℕ → Production → Row → Type 0) (made : Row) : Type 0 where
   pub p : ℕ
   pub production : Production
   pub is_there : production_at g.prods p ≡ Some production
-  pub is_read : is_read production ≡ true
-  pub is : made ≡ row (Front p 0 Nothing) []
+  pub makes : S p production made
 
--- the same of one production
+-- the first row of a production, before its first item
 pub record IsSeedOf (p : ℕ) (production : Production) (made : Row) : Type 0 where
   pub is_read : is_read production ≡ true
   pub is : made ≡ row (Front p 0 Nothing) []
+
+abbrev pub IsSeed : Syntax → Row → Type 0
+IsSeed g = IsOfSome g IsSeedOf
 
 -- the next item is a terminal, and it is the token at a place
 pub record Passes (g : Syntax) (words : List Word) (at : ℕ) (front made : Row) : Type 0 where
@@ -68,41 +75,90 @@ pub record Passes (g : Syntax) (words : List Word) (at : ℕ) (front made : Row)
   pub stands : IsTerminalAt words at text
   pub is : made ≡ row (Front p (count_after production count) held) front.code
 
+-- behind elements of a list, and the separator, stands a variable of its sort, the rest
+pub record Rests (g : Syntax) (words : List Word) (at : ℕ) (front made : Row) : Type 0 where
+  pub p : ℕ
+  pub held : Held
+  pub production : Production
+  pub separator : List ℕ
+  pub front_is : front.key ≡ Front p 0 held
+  pub some : is_nothing held ≡ false
+  pub is_there : production_at g.prods p ≡ Some production
+  pub form : production.form ≡ UserList separator
+  pub word : IsWordAt words at Variable production.sort
+  pub is : made ≡ row (Whole p Other) (Open ∷ front.code ++ ItemsAnd p at ∷ [])
+
+-- behind a part of a sequence stands an arrow
+pub record Arrows (words : List Word) (at : ℕ) (front made : Row) : Type 0 where
+  pub held : Held
+  pub front_is : front.key ≡ Front 0 1 held
+  pub stands : IsTerminalAt words at (codes "~>")
+  pub is : made ≡ row (Front 0 0 held) front.code
+
+-- behind two parts or more of a sequence stands the closing parenthesis
+pub record Closes (words : List Word) (at : ℕ) (front made : Row) : Type 0 where
+  pub front_is : front.key ≡ Front 0 1 More
+  pub stands : IsTerminalAt words at (codes ")")
+  pub is : made ≡ row Sequence (Open ∷ front.code ++ ItemsSign 0 ∷ [])
+
+-- the next part of a sequence is a variable of sort K
+pub record Binds (words : List Word) (at : ℕ) (front made : Row) : Type 0 where
+  pub held : Held
+  pub front_is : front.key ≡ Front 0 0 held
+  pub word : IsWordAt words at Variable sort_k
+  pub is : made ≡ row (Front 0 1 (held_with held Other)) (front.code ++ LeafSign at ∷ [])
+
+abbrev pub GoesInSequence : List Word → ℕ → Row → Row → Type 0
+GoesInSequence words at front made = Arrows words at front made ⊎ (Closes words at front made ⊎ Binds words at front made)
+
+-- what a row makes with the token at a place
+abbrev pub GoesOn : Syntax → List Word → ℕ → Row → Row → Type 0
+GoesOn g words at front made = Passes g words at front made ⊎ (Rests g words at front made ⊎ GoesInSequence words at front made)
+
 -- all items of a production were read
 pub record Finishes (g : Syntax) (front made : Row) : Type 0 where
   pub p : ℕ
   pub count : ℕ
   pub held : Held
   pub production : Production
-  pub lone : Bool
+  pub class : Class
   pub front_is : front.key ≡ Front p count held
   pub is_there : production_at g.prods p ≡ Some production
-  pub ends : whole_class production count held ≡ Some lone
-  pub is : made ≡ row (Whole p lone) (whole_code p production front.code)
+  pub ends : whole_class production count held ≡ Some class
+  pub is : made ≡ row (Whole p class) (whole_code p production front.code)
 
--- at a place of a sort stands such a shape, a list of one element or another
-abbrev pub takes_class : ℕ → Bool → Bool
-takes_class sort lone = cond (item_sort sort == sort_kitem) (cond lone false true) true
+abbrev pub is_no_lone : Class → Bool
+is_no_lone Lone = false
+is_no_lone WildClass = true
+is_no_lone Other = true
+
+-- at a place of a sort stands a shape of this class
+abbrev pub takes_class : ℕ → Class → Bool
+takes_class sort class = cond (item_sort sort == sort_kitem) (is_no_lone class) true
 
 -- a production may stand at a place of a sort, with a shape of this class
-pub record IsFitting (g : Syntax) (place : Option (ℕ × ℕ)) (sort p : ℕ) (lone : Bool) : Type 0 where
+pub record IsFitting (g : Syntax) (place : Option (ℕ × ℕ)) (sort p : ℕ) (class : Class) : Type 0 where
   pub production : Production
   pub is_there : production_at g.prods p ≡ Some production
-  pub below : Below (order_of g) production.sort (item_sort sort)
+  pub fits : Fits g production.sort sort
   pub permitted : may_stand g place p
-  pub taken : takes_class sort lone ≡ true
+  pub taken : takes_class sort class ≡ true
 
 -- what a row says may stand at a place of a sort
 abbrev pub Stands : Syntax → Option (ℕ × ℕ) → ℕ → Key → Type 0
 Stands g place sort (Front p count held) = ⊥
-Stands g place sort (Whole p lone) = IsFitting g place sort p lone
-Stands g place sort (Token own) = Below (order_of g) own (item_sort sort)
+Stands g place sort (Whole p class) = IsFitting g place sort p class
+Stands g place sort (Token own) = Fits g own sort
+Stands g place sort Wild = Unit {0}
+Stands g place sort Sequence = sort ≡ sort_k
 
--- the shape that a row tells of is a list of one element
-abbrev pub is_lone_key : Key → Bool
-is_lone_key (Front p count held) = false
-is_lone_key (Whole p lone) = lone
-is_lone_key (Token own) = false
+-- the class of the shape that a row tells of
+abbrev pub key_class : Key → Class
+key_class (Front p count held) = Other
+key_class (Whole p class) = class
+key_class (Token own) = Other
+key_class Wild = WildClass
+key_class Sequence = Other
 
 -- the next item is a sort, and another row may stand at its place
 pub record Extends (g : Syntax) (front child made : Row) : Type 0 where
@@ -115,7 +171,18 @@ pub record Extends (g : Syntax) (front child made : Row) : Type 0 where
   pub is_there : production_at g.prods p ≡ Some production
   pub wanted : sort_wanted production count ≡ Some sort
   pub stands : Stands g (Some (p, count)) sort child.key
-  pub is : made ≡ row (Front p (count_after production count) (held_with held (is_lone_key child.key))) (front.code ++ child.code)
+  pub is : made ≡ row (Front p (count_after production count) (held_with held (key_class child.key))) (front.code ++ child.code)
+
+-- the next part of a sequence is an item
+pub record Joins (g : Syntax) (front child made : Row) : Type 0 where
+  pub held : Held
+  pub front_is : front.key ≡ Front 0 0 held
+  pub stands : Stands g None sort_kitem child.key
+  pub is : made ≡ row (Front 0 1 (held_with held (key_class child.key))) (front.code ++ child.code)
+
+-- what a row makes with another behind it
+abbrev pub Grows : Syntax → Row → Row → Row → Type 0
+Grows g front child made = Extends g front child made ⊎ Joins g front child made
 
 -- one of some rows, with one of others behind
 pub record IsJoin (g : Syntax) (fronts children : List Row) (made : Row) : Type 0 where
@@ -123,7 +190,7 @@ pub record IsJoin (g : Syntax) (fronts children : List Row) (made : Row) : Type 
   pub child : Row
   pub has_front : Has fronts front
   pub has_child : Has children child
-  pub extends : Extends g front child made
+  pub grows : Grows g front child made
 
 -- what some rows make
 pub record IsMade (S : Row → Row → Type 0) (rows : List Row) (made : Row) : Type 0 where

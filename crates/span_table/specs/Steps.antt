@@ -6,34 +6,49 @@ use Rattle.grammar_terms.specs.declared.production.Part.{Part}
 use Rattle.grammar_terms.specs.declared.production.Part.TheVariants.{Terminal, Sort}
 use Rattle.grammar_terms.specs.declared.production.Production.{Production}
 use Rattle.grammar_terms.specs.declared.shape.Shape.{Shape}
+use Rattle.grammar_terms.specs.declared.word.Word.{Word}
 use Rattle.grammar_terms.specs.Grammar.{lone_sort, step_from}
-use Rattle.grammar_terms.specs.Reading.{is_lone}
+use Rattle.grammar_terms.specs.Reading.{is_lone, is_wild_leaf}
+use Rattle.span_table.specs.declared.row.Class.{Class}
+use Rattle.span_table.specs.declared.row.Class.TheVariants.{Lone, Wild, Other}
 use Rattle.span_table.specs.declared.row.Held.{Held}
 use Rattle.span_table.specs.declared.row.Held.TheVariants.{Nothing, One, More}
 use Rattle.span_table.specs.declared.sign.Sign.{Sign}
 use Rattle.span_table.specs.declared.sign.Sign.TheVariants.{Open, Node as NodeSign, Items as ItemsSign}
 
+-- the class of a shape
+abbrev pub class_in : List Word → Shape → Class
+class_in words shape = cond (is_wild_leaf words shape) Wild (cond (is_lone shape) Lone Other)
+
 -- what is held of some shapes
-abbrev pub held_of : List Shape → Held
-held_of [] = Nothing
-held_of (shape ∷ []) = One (is_lone shape)
-held_of (first ∷ second ∷ shapes) = More
+abbrev pub held_of : List Word → List Shape → Held
+held_of words [] = Nothing
+held_of words (shape ∷ []) = One (class_in words shape)
+held_of words (first ∷ second ∷ shapes) = More
 
 -- what is held with one shape more
-abbrev pub held_with : Held → Bool → Held
-held_with Nothing lone = One lone
-held_with (One before) lone = More
-held_with More lone = More
+abbrev pub held_with : Held → Class → Held
+held_with Nothing class = One class
+held_with (One before) class = More
+held_with More class = More
 
-abbrev pub is_one : Held → Bool
-is_one Nothing = false
-is_one (One lone) = true
-is_one More = false
+abbrev pub is_nothing : Held → Bool
+is_nothing Nothing = true
+is_nothing (One class) = false
+is_nothing More = false
 
-abbrev pub class_of : Held → Option Bool
+abbrev pub class_of : Held → Option Class
 class_of Nothing = None
-class_of (One lone) = Some lone
+class_of (One class) = Some class
 class_of More = None
+
+-- the class of a list of what is held, which is none of a variable without a sort alone
+abbrev pub list_of : Held → Option Class
+list_of Nothing = Some Other
+list_of (One Lone) = Some Lone
+list_of (One Wild) = None
+list_of (One Other) = Some Lone
+list_of More = Some Other
 
 abbrev pub part_sort : Option Part → Option ℕ
 part_sort None = None
@@ -82,22 +97,22 @@ count_by (UserList separator) count = count_in_list separator count
 abbrev pub count_after : Production → ℕ → ℕ
 count_after production count = count_by production.form count
 
-abbrev pub list_class : List ℕ → ℕ → Held → Option Bool
-list_class [] count held = Some (is_one held)
-list_class (byte ∷ bytes) count Nothing = Some false
-list_class (byte ∷ bytes) count (One lone) = cond (count == 0) None (Some true)
-list_class (byte ∷ bytes) count More = cond (count == 0) None (Some false)
+abbrev pub list_class : List ℕ → ℕ → Held → Option Class
+list_class [] count held = list_of held
+list_class (byte ∷ bytes) count Nothing = Some Other
+list_class (byte ∷ bytes) count (One class) = cond (count == 0) None (list_of (One class))
+list_class (byte ∷ bytes) count More = cond (count == 0) None (Some Other)
 
-abbrev pub plain_class : Production → ℕ → Held → Option Bool
-plain_class production count held = cond (count == length production.items) (cond production.attrs.bracket (class_of held) (Some false)) None
+abbrev pub plain_class : Production → ℕ → Held → Option Class
+plain_class production count held = cond (count == length production.items) (cond production.attrs.bracket (class_of held) (Some Other)) None
 
-abbrev pub class_by : Form → Production → ℕ → Held → Option Bool
+abbrev pub class_by : Form → Production → ℕ → Held → Option Class
 class_by Plain production count held = plain_class production count held
 class_by (Prefix word) production count held = plain_class production count held
 class_by (UserList separator) production count held = list_class separator count held
 
--- where a front of a production is all of it, whether its shape is a list of one element
-abbrev pub whole_class : Production → ℕ → Held → Option Bool
+-- where a front of a production is all of it, the class of its shape
+abbrev pub whole_class : Production → ℕ → Held → Option Class
 whole_class production count held = class_by production.form production count held
 
 abbrev pub plain_code : ℕ → Production → List Sign → List Sign

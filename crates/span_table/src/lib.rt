@@ -1,7 +1,8 @@
-//! All readings of a program's tokens, found by a table over spans of tokens.
+//! All readings of the tokens of a program, or of a content or a condition of a rule, found by a table over spans of tokens.
 #![tactic(auto)]
 
 mod codes;
+mod going;
 mod joins;
 mod passes;
 mod readings;
@@ -11,6 +12,7 @@ mod sign;
 mod slot;
 mod steps;
 mod table;
+mod tokens;
 
 pub use readings::all_readings;
 

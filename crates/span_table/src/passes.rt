@@ -1,32 +1,18 @@
 //! Rows that one row makes, and all that rows of a span make in it.
-ghost use Rattle.std.specs.Prelude.{◌≡◌, ◌↔◌, ◌++◌, [], ◌∷◌, IfOk, IsTrue};
-ghost use Rattle.grammar_terms.specs.declared.word.WordKind.TheVariants.{Terminal as TerminalKind};
-ghost use Rattle.grammar_terms.specs.Reading.{IsTerminalAt};
-ghost use Rattle.span_table.specs.declared.sign.Sign.TheVariants.{Open as OpenSign};
+ghost use Rattle.std.specs.Prelude.{◌≡◌, [], IfOk};
 ghost use Rattle.span_table.specs.Steps.{whole_code as code_of_whole, plain_code as code_of_plain};
-ghost use Rattle.span_table.specs.Rows.{Adds, Finishes, Passes, IsSeed, IsSeedOf, IsMade, IsNear};
+ghost use Rattle.span_table.specs.Rows.{Adds, Finishes, IsSeed, IsSeedOf, IsMade, IsNear};
 ghost use Rattle.span_table.specs.Table.{IsSaturated, KeepsSound, KeepsSoundAlone, IsEmptySpan};
 
-use crate::joins::{join, joined_code};
+use crate::joins::join;
 use crate::row::{Held, Key, Row};
 use crate::rows::{add, add_all};
-use crate::sign::Sign;
-use crate::steps::{count_after, is_read, one_more, text_wanted, whole_class};
-use grammar_terms::{Grammar, Production, Word, WordKind};
-use k_terms::{Many, Memory, Text};
+use crate::sign::{Sign, enclosed_code, joined_code};
+use crate::steps::{is_read, one_more, whole_class};
+use grammar_terms::{Grammar, Production};
+use k_terms::{Many, Memory};
 use production_reader::Form;
 use std::alloc::Global;
-
-/// A code as that of the parts of something.
-fn enclosed_code(alloc: Global, code: &[Sign], end: Sign) -> Result<Many<Sign>, Memory>
-    ensures { IfOk result (λ whole. whole ≡ OpenSign ∷ code.now ++ end ∷ []) }
-{
-    let mut whole = Vec::new(alloc);
-    whole.push(Sign::Open)?;
-    whole.extend_from_slice(code)?;
-    whole.push(end)?;
-    Ok(Many::from_vec(whole))
-}
 
 fn plain_code(
     alloc: Global,
@@ -68,11 +54,11 @@ fn finish(alloc: Global, grammar: &Grammar, front: &Row, rows: &mut Vec<Row>) ->
     let Some(production) = grammar.production(prod) else {
         return Ok(());
     };
-    let Some(is_lone) = whole_class(production, count, held) else {
+    let Some(class) = whole_class(production, count, held) else {
         return Ok(());
     };
     let code = whole_code(alloc, prod, production, front.code.as_slice())?;
-    let key = Key::Whole(prod, is_lone);
+    let key = Key::Whole(prod, class);
     add(rows, Row { key, code })?;
     Ok(())
 }
@@ -87,74 +73,6 @@ fn finish_all(
 {
     for front in fronts {
         finish(alloc, grammar, front, rows)?;
-    }
-    Ok(())
-}
-
-/// The token at a place is this terminal.
-fn is_terminal_at(tokens: &[Word], at: usize, text: &Text) -> bool
-    ensures { IsTrue result ↔ IsTerminalAt tokens.now at text.now }
-{
-    match tokens.get(at) {
-        Some(word) => is_terminal(&word.kind, text),
-        None => false,
-    }
-}
-
-fn is_terminal(kind: &WordKind, text: &Text) -> bool
-    ensures { IsTrue result ↔ (kind.now ≡ TerminalKind text.now) }
-{
-    match kind {
-        WordKind::Terminal(other) => other.as_slice() == text.as_slice(),
-        WordKind::Literal(_) => false,
-        WordKind::Variable => false,
-        WordKind::Wild => false,
-        WordKind::EmptyList => false,
-    }
-}
-
-/// Adds the front that another makes with the token at a place, where its next item is that terminal.
-fn pass(
-    alloc: Global,
-    grammar: &Grammar,
-    tokens: &[Word],
-    at: usize,
-    front: &Row,
-    rows: &mut Vec<Row>,
-) -> Result<(), Memory>
-    ensures { IfOk result (λ _. Adds (Passes grammar.now tokens.now at front.now) rows.old.items rows.new.items) }
-{
-    let Key::Front(prod, count, held) = front.key else {
-        return Ok(());
-    };
-    let Some(production) = grammar.production(prod) else {
-        return Ok(());
-    };
-    let Some(text) = text_wanted(production, count) else {
-        return Ok(());
-    };
-    if !is_terminal_at(tokens, at, text) {
-        return Ok(());
-    }
-    let key = Key::Front(prod, count_after(production, count)?, held);
-    let code = joined_code(alloc, front.code.as_slice(), &[])?;
-    add(rows, Row { key, code })?;
-    Ok(())
-}
-
-/// Adds the fronts that others make with the token at a place.
-pub(crate) fn pass_all(
-    alloc: Global,
-    grammar: &Grammar,
-    tokens: &[Word],
-    at: usize,
-    fronts: &[Row],
-    rows: &mut Vec<Row>,
-) -> Result<(), Memory>
-    ensures { IfOk result (λ _. Adds (IsMade (Passes grammar.now tokens.now at) fronts.now) rows.old.items rows.new.items) }
-{
-    for front in fronts {
-        pass(alloc, grammar, tokens, at, front, rows)?;
     }
     Ok(())
 }

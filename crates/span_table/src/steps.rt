@@ -1,42 +1,55 @@
 //! How a production goes on behind its first items.
 ghost use Rattle.std.specs.Prelude.{◌≡◌, ◌+◌, IfOk, option_copied};
 ghost use Rattle.grammar_terms.specs.Grammar.{lone_sort as sort_alone};
-ghost use Rattle.span_table.specs.Steps.{held_with as held_after, is_one as one_held, class_of as class_held, part_sort, part_text, sort_wanted as next_sort, text_wanted as next_text, separator_wanted as next_separator, count_after as next_count, count_in_list as next_in_list, list_class as class_of_list, plain_class as class_of_plain, whole_class as class_of_whole, is_read as reads};
+ghost use Rattle.span_table.specs.Steps.{held_with as held_after, is_nothing as nothing_held, class_of as class_held, list_of as list_held, part_sort, part_text, sort_wanted as next_sort, text_wanted as next_text, separator_wanted as next_separator, count_after as next_count, count_in_list as next_in_list, list_class as class_of_list, plain_class as class_of_plain, whole_class as class_of_whole, is_read as reads};
 
-use crate::row::Held;
+use crate::row::{Class, Held};
 use grammar_terms::{Part, Production, step_from};
 use k_terms::{Memory, Text};
 use production_reader::Form;
 
-/// What is held with one shape more, which may be a list of one element.
-pub(crate) fn held_with(held: Held, is_lone: bool) -> Held
-    ensures { result ≡ held_after held is_lone }
+/// What is held with one shape more, of a class.
+pub(crate) fn held_with(held: Held, class: Class) -> Held
+    ensures { result ≡ held_after held class }
 {
     match held {
-        Held::Nothing => Held::One(is_lone),
+        Held::Nothing => Held::One(class),
         Held::One(_) => Held::More,
         Held::More => Held::More,
     }
 }
 
-fn is_one(held: Held) -> bool
-    ensures { result ≡ one_held held }
+pub(crate) fn is_nothing(held: Held) -> bool
+    ensures { result ≡ nothing_held held }
 {
     match held {
-        Held::Nothing => false,
-        Held::One(_) => true,
+        Held::Nothing => true,
+        Held::One(_) => false,
         Held::More => false,
     }
 }
 
-/// Whether the one shape that is held is a list of one element.
-fn class_of(held: Held) -> Option<bool>
+/// The class of the one shape that is held.
+fn class_of(held: Held) -> Option<Class>
     ensures { result ≡ class_held held }
 {
     match held {
         Held::Nothing => None,
-        Held::One(is_lone) => Some(is_lone),
+        Held::One(class) => Some(class),
         Held::More => None,
+    }
+}
+
+/// The class of a list of what is held, which is none of a variable without a sort alone.
+fn list_of(held: Held) -> Option<Class>
+    ensures { result ≡ list_held held }
+{
+    match held {
+        Held::Nothing => Some(Class::Other),
+        Held::One(Class::Lone) => Some(Class::Lone),
+        Held::One(Class::Wild) => None,
+        Held::One(Class::Other) => Some(Class::Lone),
+        Held::More => Some(Class::Other),
     }
 }
 
@@ -137,20 +150,26 @@ pub(crate) fn count_after(production: &Production, count: u32) -> Result<u32, Me
     }
 }
 
-fn list_class(separator: &Text, count: u32, held: Held) -> Option<bool>
+fn list_class(separator: &Text, count: u32, held: Held) -> Option<Class>
     ensures { result ≡ class_of_list separator.now count held }
 {
     if separator.is_empty() {
-        return Some(is_one(held));
+        return list_of(held);
     }
     match held {
-        Held::Nothing => Some(false),
-        Held::One(_) => (count != 0).then_some(true),
-        Held::More => (count != 0).then_some(false),
+        Held::Nothing => Some(Class::Other),
+        Held::One(_) => {
+            if count == 0 {
+                None
+            } else {
+                list_of(held)
+            }
+        }
+        Held::More => (count != 0).then_some(Class::Other),
     }
 }
 
-fn plain_class(production: &Production, count: u32, held: Held) -> Option<bool>
+fn plain_class(production: &Production, count: u32, held: Held) -> Option<Class>
     ensures { result ≡ class_of_plain production.now count held }
 {
     if count as usize != production.items.len() {
@@ -159,12 +178,12 @@ fn plain_class(production: &Production, count: u32, held: Held) -> Option<bool>
     if production.attrs.bracket {
         class_of(held)
     } else {
-        Some(false)
+        Some(Class::Other)
     }
 }
 
-/// Where a front of a production is all of it, whether its shape is a list of one element.
-pub(crate) fn whole_class(production: &Production, count: u32, held: Held) -> Option<bool>
+/// Where a front of a production is all of it, the class of its shape.
+pub(crate) fn whole_class(production: &Production, count: u32, held: Held) -> Option<Class>
     ensures { result ≡ class_of_whole production.now count held }
 {
     match &production.form {

@@ -1,14 +1,5 @@
-use Rattle.std.proofs.Common.{refl, subst}
-use Rattle.span_table.specs.Rows.{IsMade, Extends}
-use Rattle.span_table.specs.Slots.{IsSlotOf}
-use Rattle.span_table.specs.Steps.{count_after}
-use Rattle.span_table.proofs.Adding.{adds_none}
+use Rattle.span_table.proofs.Adding.{adds_grown}
 use Rattle.span_table.proofs.joins.join_front.Goals as goal
 
-pub returns-in_default : goal.returns-in_default
-returns-in_default c =
-    adds_none (IsMade (Extends c.args.grammar.now c.args.front.now) c.args.children.now) c.args.rows.now.items
-    (λ x made. let e = made.makes in
-    subst (IsSlotOf c.args.grammar.now c.args.front.now.key) c.in_default.is c.in_ok-slot.ensures
-    (record { prod = e.p; count = e.count; after = count_after e.production e.count; held = e.held; sort = e.sort })
-    (record { production = e.production; key_is = e.front_is; is_there = e.is_there; wanted = e.wanted; after_is = refl }))
+pub returns : goal.returns
+returns c = adds_grown c.args.grammar.now c.args.front.now c.args.children.now _ _ _ c.in_ok-join_items.ensures c.in_ok-join_parts.ensures
