@@ -157,14 +157,8 @@ fn list_class(separator: &Text, count: u32, held: Held) -> Option<Class>
         return list_of(held);
     }
     match held {
-        Held::Nothing => Some(Class::Other),
-        Held::One(_) => {
-            if count == 0 {
-                None
-            } else {
-                list_of(held)
-            }
-        }
+        Held::Nothing => list_of(held),
+        Held::One(_) => { if count == 0 { None } else { list_of(held) } }
         Held::More => (count != 0).then_some(Class::Other),
     }
 }

@@ -86,12 +86,7 @@ fn is_any_empty_at(tokens: &[Word], at: usize) -> bool
 }
 
 /// Adds the row of a token that is a reading of its own sort.
-fn add_leaf(
-    alloc: Global,
-    tokens: &[Word],
-    at: usize,
-    rows: &mut Vec<Row>,
-) -> Result<(), Memory>
+fn add_leaf(alloc: Global, tokens: &[Word], at: usize, rows: &mut Vec<Row>) -> Result<(), Memory>
     ensures { IfOk result (λ _. Adds (IsLeafToken tokens.now at) rows.old.items rows.new.items) }
 {
     let Some(token) = tokens.get(at) else {
@@ -107,12 +102,7 @@ fn add_leaf(
 }
 
 /// Adds the row of a variable without a sort.
-fn add_wild(
-    alloc: Global,
-    tokens: &[Word],
-    at: usize,
-    rows: &mut Vec<Row>,
-) -> Result<(), Memory>
+fn add_wild(alloc: Global, tokens: &[Word], at: usize, rows: &mut Vec<Row>) -> Result<(), Memory>
     ensures { IfOk result (λ _. Adds (IsWildToken tokens.now at) rows.old.items rows.new.items) }
 {
     if !is_wild_at(tokens, at) {
@@ -172,12 +162,7 @@ fn add_empty_lists(
 }
 
 /// Adds the row of the empty sequence.
-fn add_nothing(
-    alloc: Global,
-    tokens: &[Word],
-    at: usize,
-    rows: &mut Vec<Row>,
-) -> Result<(), Memory>
+fn add_nothing(alloc: Global, tokens: &[Word], at: usize, rows: &mut Vec<Row>) -> Result<(), Memory>
     ensures { IfOk result (λ _. Adds (IsNothingToken tokens.now at) rows.old.items rows.new.items) }
 {
     if !is_empty_at(tokens, at, sort::K) {
