@@ -3,3 +3,4 @@ pub mod Numbering
 pub mod Backward
 pub mod ShapeValues
 pub mod Telling
+pub mod Standing
