@@ -1,3 +1,5 @@
+ghost use Rattle.std.specs.Prelude.{◌≤◌, IfOk, length};
+
 use crate::all_readings;
 use grammar_terms::{Grammar, Part, Production, Readings, Shape, Word, WordKind};
 use k_terms::{Many, Memory, Text, Value, sort};
@@ -72,13 +74,25 @@ fn banged(alloc: Global) -> Result<Production, Memory> {
     Ok(production(EXP, 2, false, Form::Plain, items))
 }
 
-/// The names of so many sorts.
-fn names(alloc: Global, count: usize) -> Result<Many<Text>, Memory> {
-    let mut names = Many::new(alloc);
-    for _ in 0..count {
-        names.push(text(alloc, b"s")?)?;
-    }
-    Ok(names)
+/// The names of the sorts: the builtin ones, and Exp, Ints and Rows.
+fn names(alloc: Global) -> Result<Many<Text>, Memory>
+    ensures { IfOk result (λ names. length names ≤ 13) }
+{
+    Ok(Many::from_vec(vec![in alloc;
+        text(alloc, b"K")?,
+        text(alloc, b"KItem")?,
+        text(alloc, b"KResult")?,
+        text(alloc, b"Int")?,
+        text(alloc, b"Bool")?,
+        text(alloc, b"String")?,
+        text(alloc, b"Id")?,
+        text(alloc, b"Map")?,
+        text(alloc, b"List")?,
+        text(alloc, b"Bag")?,
+        text(alloc, b"Exp")?,
+        text(alloc, b"Ints")?,
+        text(alloc, b"Rows")?,
+    ]?))
 }
 
 /// A number, a difference and an exclamation, productions 1 to 3, `Ints ::= List{Int, ","}`, production 4, and
@@ -90,7 +104,7 @@ fn expressions(alloc: Global, left: bool) -> Result<Grammar, Memory> {
     prods.push(banged(alloc)?)?;
     prods.push(lists(alloc, INTS, 3, sort::INT, b",")?)?;
     prods.push(lists(alloc, ROWS, 4, INTS, b";")?)?;
-    Grammar::new(alloc, names(alloc, 13)?, prods)
+    Grammar::new(alloc, names(alloc)?, prods)
 }
 
 /// `Ints ::= List{Int, ","}` and lists of sort `Rows` of another element and separator, productions 1 and 2.
@@ -98,7 +112,7 @@ fn two_lists(alloc: Global, element: u32, separator: &[u8]) -> Result<Grammar, M
     let mut prods = Many::new(alloc);
     prods.push(lists(alloc, INTS, 0, sort::INT, b",")?)?;
     prods.push(lists(alloc, ROWS, 1, element, separator)?)?;
-    Grammar::new(alloc, names(alloc, 13)?, prods)?.for_rules(alloc)
+    Grammar::new(alloc, names(alloc)?, prods)?.for_rules(alloc)
 }
 
 fn word(kind: WordKind, sort: u32) -> Word {
@@ -179,24 +193,131 @@ fn shown(alloc: Global, grammar: &Grammar, sort: u32, letters: &[u8]) -> Result<
     }
 }
 
+/// What letters are as a list of elements of a sort, with a text between.
+fn list_shown(
+    alloc: Global,
+    element: u32,
+    separator: &[u8],
+    letters: &[u8],
+) -> Result<String, Fail> {
+    let grammar = two_lists(alloc, element, separator)?;
+    shown(alloc, &grammar, ROWS, letters)
+}
+
+/// A sort, letters, and the reading that they have there.
+type Case = (u32, &'static [u8], &'static str);
+
+/// What is read otherwise than it should be, and nothing where all is right.
+fn otherwise(alloc: Global, grammar: &Grammar, cases: &[Case]) -> Result<String, Fail> {
+    let mut line = String::new(alloc);
+    for (sort, letters, want) in cases {
+        let read = shown(alloc, grammar, *sort, letters)?;
+        if read.as_str() != *want {
+            line.push_str(read.as_str())?;
+        }
+    }
+    Ok(line)
+}
+
+/// Over the declared productions alone.
+const PROGRAMS: [Case; 7] = [
+    (EXP, b"", "none"),
+    (EXP, b"1-1-1", "2( 2( 0 2 ) 4 )"),
+    (sort::K, b"1", "0"),
+    (EXP, b"(1)", "none"),
+    (sort::K, b"(1~1)", "none"),
+    (INTS, b"1,1", "4[ 0 2 ]"),
+    (ROWS, b"1;", "5[ 4[ 0 ] 4[ ] ]"),
+];
+
+/// Variables, and those without a sort.
+const VARIABLES: [Case; 20] = [
+    (sort::K, b"k", "0"),
+    (sort::KITEM, b"k", "none"),
+    (EXP, b"k", "none"),
+    (sort::K, b"(k)", "1"),
+    (sort::KITEM, b"(k)", "none"),
+    (EXP, b"!k", "3( 1 )"),
+    (EXP, b"i", "0"),
+    (sort::K, b"i", "0"),
+    (INTS, b"x", "0"),
+    (INTS, b"i", "4[ 0 ]"),
+    (sort::KITEM, b"x", "0"),
+    (sort::INT, b"_", "0"),
+    (sort::BAG, b"_", "0"),
+    (sort::INT, b"(_)", "1"),
+    (INTS, b"_", "0"),
+    (INTS, b"(_)", "1"),
+    (INTS, b"_,_", "4[ 0 2 ]"),
+    (ROWS, b"_;_", "5[ 0 2 ]"),
+    (ROWS, b"_,_", "5[ 4[ 0 2 ] ]"),
+    (EXP, b"_-_", "2( 0 2 )"),
+];
+
+/// Empty lists, and lists with a rest.
+const LISTS: [Case; 14] = [
+    (INTS, b"e", "4[ ]"),
+    (sort::INT, b"e", "none"),
+    (sort::KITEM, b"e", "4[ ]"),
+    (ROWS, b"e;e", "5[ 4[ ] 4[ ] ]"),
+    (INTS, b"1,x", "4[ 0 | 2 ]"),
+    (INTS, b"1,1,x", "4[ 0 2 | 4 ]"),
+    (INTS, b"_,x", "4[ 0 | 2 ]"),
+    (INTS, b"1,_", "4[ 0 2 ]"),
+    (INTS, b",x", "none"),
+    (INTS, b"x,1", "none"),
+    (INTS, b"1,(x)", "none"),
+    (ROWS, b"1;x", "5[ 4[ 0 ] 2 ]"),
+    (ROWS, b"1;y", "5[ 4[ 0 ] | 2 ]"),
+    (sort::KITEM, b"1,x", "4[ 0 | 2 ]"),
+];
+
+/// Sequences and the empty one.
+const SEQUENCES: [Case; 18] = [
+    (sort::K, b".", "0[ ]"),
+    (sort::KITEM, b".", "none"),
+    (sort::K, b"(.)", "0[ ]"),
+    (EXP, b"!.", "3( 0[ ] )"),
+    (sort::K, b"(1~1)", "0[ 1 3 ]"),
+    (sort::KITEM, b"(1~1)", "none"),
+    (sort::K, b"((1~1))", "0[ 2 4 ]"),
+    (sort::K, b"(1)", "1"),
+    (sort::K, b"1~1", "none"),
+    (sort::K, b"(1~k)", "0[ 1 3 ]"),
+    (sort::K, b"(k~1)", "0[ 1 3 ]"),
+    (sort::K, b"(_~1)", "0[ 1 3 ]"),
+    (sort::K, b"(1~.)", "none"),
+    (sort::K, b"(1~(k))", "none"),
+    (sort::K, b"(1~(1~1))", "none"),
+    (sort::K, b"(1~1~1)", "0[ 1 3 5 ]"),
+    (EXP, b"!(1~1)", "3( 0[ 2 4 ] )"),
+    (sort::K, b"(1,1~1)", "0[ 4[ 1 3 ] 5 ]"),
+];
+
+/// Operators, which have the numbers from 6 on.
+const OPERATORS: [Case; 7] = [
+    (sort::INT, b"1*1*1", "6( 6( 0 2 ) 4 )"),
+    (sort::INT, b"1+1*1", "9( 0 6( 2 4 ) )"),
+    (sort::INT, b"1*1+1", "9( 6( 0 2 ) 4 )"),
+    (sort::INT, b"(1+1)*1", "6( 9( 1 3 ) 6 )"),
+    (sort::BOOL, b"1=1", "18( 0 2 )"),
+    (sort::BOOL, b"1=1=1", "none"),
+    (sort::BOOL, b"1=(1=1)", "18( 0 18( 3 5 ) )"),
+];
+
 #[test]
 fn reads_programs(rt: HostRuntime) -> Result<(), Fail> {
     let alloc = rt.alloc();
     let grammar = expressions(alloc, true)?;
-    let cases: [(u32, &[u8], &str); 7] = [
-        (EXP, b"", "none"),
-        (EXP, b"1-1-1", "2( 2( 0 2 ) 4 )"),
-        (sort::K, b"1", "0"),
-        (EXP, b"(1)", "none"),
-        (sort::K, b"(1~1)", "none"),
-        (INTS, b"1,1", "4[ 0 2 ]"),
-        (ROWS, b"1;", "5[ 4[ 0 ] 4[ ] ]"),
-    ];
-    for (sort, letters, want) in cases {
-        assert_eq!(rt; shown(alloc, &grammar, sort, letters)?.as_str(), want);
-    }
-    let ambiguous = expressions(alloc, false)?;
-    assert_eq!(rt; shown(alloc, &ambiguous, EXP, b"1-1-1")?.as_str(), "two");
+    assert_eq!(rt; otherwise(alloc, &grammar, &PROGRAMS)?.as_str(), "");
+    Ok(())
+}
+
+#[test]
+fn tells_two_readings(rt: HostRuntime) -> Result<(), Fail> {
+    let alloc = rt.alloc();
+    let grammar = expressions(alloc, false)?;
+    assert_eq!(rt; shown(alloc, &grammar, EXP, b"1-1-1")?.as_str(), "two");
     Ok(())
 }
 
@@ -204,31 +325,7 @@ fn reads_programs(rt: HostRuntime) -> Result<(), Fail> {
 fn reads_variables(rt: HostRuntime) -> Result<(), Fail> {
     let alloc = rt.alloc();
     let grammar = expressions(alloc, true)?.for_rules(alloc)?;
-    let cases: [(u32, &[u8], &str); 20] = [
-        (sort::K, b"k", "0"),
-        (sort::KITEM, b"k", "none"),
-        (EXP, b"k", "none"),
-        (sort::K, b"(k)", "1"),
-        (sort::KITEM, b"(k)", "none"),
-        (EXP, b"!k", "3( 1 )"),
-        (EXP, b"i", "0"),
-        (sort::K, b"i", "0"),
-        (INTS, b"x", "0"),
-        (INTS, b"i", "4[ 0 ]"),
-        (sort::KITEM, b"x", "0"),
-        (sort::INT, b"_", "0"),
-        (sort::BAG, b"_", "0"),
-        (sort::INT, b"(_)", "1"),
-        (INTS, b"_", "0"),
-        (INTS, b"(_)", "1"),
-        (INTS, b"_,_", "4[ 0 2 ]"),
-        (ROWS, b"_;_", "5[ 0 2 ]"),
-        (ROWS, b"_,_", "5[ 4[ 0 2 ] ]"),
-        (EXP, b"_-_", "2( 0 2 )"),
-    ];
-    for (sort, letters, want) in cases {
-        assert_eq!(rt; shown(alloc, &grammar, sort, letters)?.as_str(), want);
-    }
+    assert_eq!(rt; otherwise(alloc, &grammar, &VARIABLES)?.as_str(), "");
     Ok(())
 }
 
@@ -236,35 +333,26 @@ fn reads_variables(rt: HostRuntime) -> Result<(), Fail> {
 fn reads_lists(rt: HostRuntime) -> Result<(), Fail> {
     let alloc = rt.alloc();
     let grammar = expressions(alloc, true)?.for_rules(alloc)?;
-    let cases: [(u32, &[u8], &str); 14] = [
-        (INTS, b"e", "4[ ]"),
-        (sort::INT, b"e", "none"),
-        (sort::KITEM, b"e", "4[ ]"),
-        (ROWS, b"e;e", "5[ 4[ ] 4[ ] ]"),
-        (INTS, b"1,x", "4[ 0 | 2 ]"),
-        (INTS, b"1,1,x", "4[ 0 2 | 4 ]"),
-        (INTS, b"_,x", "4[ 0 | 2 ]"),
-        (INTS, b"1,_", "4[ 0 2 ]"),
-        (INTS, b",x", "none"),
-        (INTS, b"x,1", "none"),
-        (INTS, b"1,(x)", "none"),
-        (ROWS, b"1;x", "5[ 4[ 0 ] 2 ]"),
-        (ROWS, b"1;y", "5[ 4[ 0 ] | 2 ]"),
-        (sort::KITEM, b"1,x", "4[ 0 | 2 ]"),
+    assert_eq!(rt; otherwise(alloc, &grammar, &LISTS)?.as_str(), "");
+    Ok(())
+}
+
+/// Of each sort of elements and separator, what letters are as a list of them.
+#[test]
+fn reads_lists_of_a_sort(rt: HostRuntime) -> Result<(), Fail> {
+    let alloc = rt.alloc();
+    let cases: [(u32, &[u8], &[u8], &str); 4] = [
+        (sort::KITEM, b"|", b"1|y", "two"),
+        (INTS, b"", b"ee", "two"),
+        (sort::INT, b"", b"11y", "2[ 0 1 | 2 ]"),
+        (sort::INT, b"", b"y", "0"),
     ];
-    for (sort, letters, want) in cases {
-        assert_eq!(rt; shown(alloc, &grammar, sort, letters)?.as_str(), want);
+    for (element, separator, letters, want) in cases {
+        assert_eq!(rt;
+            list_shown(alloc, element, separator, letters)?.as_str(),
+            want
+        );
     }
-    let items = two_lists(alloc, sort::KITEM, b"|")?;
-    assert_eq!(rt; shown(alloc, &items, ROWS, b"1|y")?.as_str(), "two");
-    let rows = two_lists(alloc, INTS, b"")?;
-    assert_eq!(rt; shown(alloc, &rows, ROWS, b"ee")?.as_str(), "two");
-    let numbers = two_lists(alloc, sort::INT, b"")?;
-    assert_eq!(rt;
-        shown(alloc, &numbers, ROWS, b"11y")?.as_str(),
-        "2[ 0 1 | 2 ]"
-    );
-    assert_eq!(rt; shown(alloc, &numbers, ROWS, b"y")?.as_str(), "0");
     Ok(())
 }
 
@@ -272,49 +360,15 @@ fn reads_lists(rt: HostRuntime) -> Result<(), Fail> {
 fn reads_sequences(rt: HostRuntime) -> Result<(), Fail> {
     let alloc = rt.alloc();
     let grammar = expressions(alloc, true)?.for_rules(alloc)?;
-    let cases: [(u32, &[u8], &str); 18] = [
-        (sort::K, b".", "0[ ]"),
-        (sort::KITEM, b".", "none"),
-        (sort::K, b"(.)", "0[ ]"),
-        (EXP, b"!.", "3( 0[ ] )"),
-        (sort::K, b"(1~1)", "0[ 1 3 ]"),
-        (sort::KITEM, b"(1~1)", "none"),
-        (sort::K, b"((1~1))", "0[ 2 4 ]"),
-        (sort::K, b"(1)", "1"),
-        (sort::K, b"1~1", "none"),
-        (sort::K, b"(1~k)", "0[ 1 3 ]"),
-        (sort::K, b"(k~1)", "0[ 1 3 ]"),
-        (sort::K, b"(_~1)", "0[ 1 3 ]"),
-        (sort::K, b"(1~.)", "none"),
-        (sort::K, b"(1~(k))", "none"),
-        (sort::K, b"(1~(1~1))", "none"),
-        (sort::K, b"(1~1~1)", "0[ 1 3 5 ]"),
-        (EXP, b"!(1~1)", "3( 0[ 2 4 ] )"),
-        (sort::K, b"(1,1~1)", "0[ 4[ 1 3 ] 5 ]"),
-    ];
-    for (sort, letters, want) in cases {
-        assert_eq!(rt; shown(alloc, &grammar, sort, letters)?.as_str(), want);
-    }
+    assert_eq!(rt; otherwise(alloc, &grammar, &SEQUENCES)?.as_str(), "");
     Ok(())
 }
 
-/// The operators have the numbers from 6 on.
 #[test]
 fn reads_operators(rt: HostRuntime) -> Result<(), Fail> {
     let alloc = rt.alloc();
     let grammar = expressions(alloc, true)?.for_rules(alloc)?;
-    let cases: [(u32, &[u8], &str); 7] = [
-        (sort::INT, b"1*1*1", "6( 6( 0 2 ) 4 )"),
-        (sort::INT, b"1+1*1", "9( 0 6( 2 4 ) )"),
-        (sort::INT, b"1*1+1", "9( 6( 0 2 ) 4 )"),
-        (sort::INT, b"(1+1)*1", "6( 9( 1 3 ) 6 )"),
-        (sort::BOOL, b"1=1", "18( 0 2 )"),
-        (sort::BOOL, b"1=1=1", "none"),
-        (sort::BOOL, b"1=(1=1)", "18( 0 18( 3 5 ) )"),
-    ];
-    for (sort, letters, want) in cases {
-        assert_eq!(rt; shown(alloc, &grammar, sort, letters)?.as_str(), want);
-    }
+    assert_eq!(rt; otherwise(alloc, &grammar, &OPERATORS)?.as_str(), "");
     Ok(())
 }
 
