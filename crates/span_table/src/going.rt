@@ -1,64 +1,15 @@
 //! What a row makes with the token behind it.
-ghost use Rattle.std.specs.Prelude.{◌≡◌, ◌↔◌, IfOk, IsTrue};
-ghost use Rattle.grammar_terms.specs.declared.word.WordKind.TheVariants.{Terminal as TerminalKind, Variable as VariableKind};
-ghost use Rattle.grammar_terms.specs.Reading.{IsTerminalAt, IsWordAt};
+ghost use Rattle.std.specs.Prelude.{IfOk};
 ghost use Rattle.span_table.specs.Rows.{Adds, Passes, Rests, Arrows, Closes, Binds, GoesInSequence, GoesOn, IsMade};
 
 use crate::row::{Class, Held, Key, Row};
 use crate::rows::add;
 use crate::sign::{Sign, enclosed_code, joined_code};
 use crate::steps::{count_after, held_with, is_nothing, text_wanted};
-use grammar_terms::{Grammar, Word, WordKind};
+use grammar_terms::{Grammar, Word, is_terminal_at, is_variable_at};
 use k_terms::{Memory, sort};
 use production_reader::Form;
 use std::alloc::Global;
-
-/// The token at a place is this terminal.
-pub(crate) fn is_terminal_at(tokens: &[Word], at: usize, text: &[u8]) -> bool
-    ensures { IsTrue result ↔ IsTerminalAt tokens.now at text.now }
-{
-    match tokens.get(at) {
-        Some(word) => is_terminal(&word.kind, text),
-        None => false,
-    }
-}
-
-fn is_terminal(kind: &WordKind, text: &[u8]) -> bool
-    ensures { IsTrue result ↔ (kind.now ≡ TerminalKind text.now) }
-{
-    match kind {
-        WordKind::Terminal(other) => other.as_slice() == text,
-        WordKind::Literal(_) => false,
-        WordKind::Variable => false,
-        WordKind::Wild => false,
-        WordKind::EmptyList => false,
-    }
-}
-
-fn is_variable(kind: &WordKind) -> bool
-    ensures { IsTrue result ↔ (kind.now ≡ VariableKind) }
-{
-    match kind {
-        WordKind::Terminal(_) => false,
-        WordKind::Literal(_) => false,
-        WordKind::Variable => true,
-        WordKind::Wild => false,
-        WordKind::EmptyList => false,
-    }
-}
-
-/// The token at a place is a variable of a sort.
-fn is_variable_at(tokens: &[Word], at: usize, sort: u32) -> bool
-    ensures { IsTrue result ↔ IsWordAt tokens.now at VariableKind sort }
-{
-    let Some(word) = tokens.get(at) else {
-        return false;
-    };
-    if !is_variable(&word.kind) {
-        return false;
-    }
-    word.sort == sort
-}
 
 /// Adds the front that another makes with the token at a place, where its next item is that terminal.
 fn pass(

@@ -1,10 +1,9 @@
 //! How a production goes on behind its first items.
 ghost use Rattle.std.specs.Prelude.{◌≡◌, ◌+◌, IfOk, option_copied};
-ghost use Rattle.grammar_terms.specs.Grammar.{lone_sort as sort_alone};
 ghost use Rattle.span_table.specs.Steps.{held_with as held_after, is_nothing as nothing_held, class_of as class_held, list_of as list_held, part_sort, part_text, sort_wanted as next_sort, text_wanted as next_text, separator_wanted as next_separator, count_after as next_count, count_in_list as next_in_list, list_class as class_of_list, plain_class as class_of_plain, whole_class as class_of_whole, is_read as reads};
 
 use crate::row::{Class, Held};
-use grammar_terms::{Part, Production, step_from};
+use grammar_terms::{Part, Production, lone_sort, step_from};
 use k_terms::{Memory, Text};
 use production_reader::Form;
 
@@ -50,16 +49,6 @@ fn list_of(held: Held) -> Option<Class>
         Held::One(Class::Wild) => None,
         Held::One(Class::Other) => Some(Class::Lone),
         Held::More => Some(Class::Other),
-    }
-}
-
-/// The sort of an item that stands alone.
-fn lone_sort(items: &[Part]) -> Option<u32>
-    ensures { result ≡ sort_alone items.now }
-{
-    match items {
-        [Part::Sort(sort)] => Some(*sort),
-        _ => None,
     }
 }
 

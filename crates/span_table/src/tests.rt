@@ -387,3 +387,28 @@ fn reads_many_tokens(rt: HostRuntime) -> Result<(), Fail> {
     assert!(rt; matches!(readings, Readings::One(_)));
     Ok(())
 }
+
+/// A number within so many parentheses.
+fn enclosed(alloc: Global, depth: usize) -> Result<Vec<u8>, Memory> {
+    let mut letters = Vec::new(alloc);
+    for _ in 0..depth {
+        letters.push(b'(')?;
+    }
+    letters.push(b'1')?;
+    for _ in 0..depth {
+        letters.push(b')')?;
+    }
+    Ok(letters)
+}
+
+#[test]
+fn reads_nested(rt: HostRuntime) -> Result<(), Fail> {
+    let alloc = rt.alloc();
+    let letters = enclosed(alloc, 63)?;
+    let grammar = expressions(alloc, true)?.for_rules(alloc)?;
+    assert_eq!(rt;
+        shown(alloc, &grammar, sort::K, letters.as_slice())?.as_str(),
+        "63"
+    );
+    Ok(())
+}

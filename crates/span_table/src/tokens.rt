@@ -1,79 +1,20 @@
 //! What a token makes alone.
-ghost use Rattle.std.specs.Prelude.{◌≡◌, ◌↔◌, ℕ, IfOk, IsTrue, IsFalse};
+ghost use Rattle.std.specs.Prelude.{ℕ, IfOk, IsFalse};
 ghost use Rattle.grammar_terms.specs.declared.word.WordKind.TheVariants.{EmptyList as EmptyKind};
-ghost use Rattle.grammar_terms.specs.Reading.{is_leaf as leaf_kind, is_wild as wild_kind, is_wild_at as wild_at, IsWordAt};
+ghost use Rattle.grammar_terms.specs.Reading.{IsWordAt};
 ghost use Rattle.span_table.specs.Rows.{Adds, IsOfSome};
 ghost use Rattle.span_table.specs.Table.{IsLeafToken, IsWildToken, IsEmptyListOf, IsNothingToken, IsOpening, IsToken, IsTokenOver};
 
-use crate::going::is_terminal_at;
 use crate::row::{Class, Held, Key, Row};
 use crate::rows::add;
 use crate::sign::{Sign, enclosed_code};
 use crate::steps::{is_read, one_more};
-use grammar_terms::{Grammar, Production, Word, WordKind};
+use grammar_terms::{
+    Grammar, Production, Word, is_empty, is_empty_at, is_leaf, is_terminal_at, is_wild_at,
+};
 use k_terms::{Many, Memory, sort};
 use production_reader::Form;
 use std::alloc::Global;
-
-/// A token that is a reading of its own sort.
-fn is_leaf(kind: &WordKind) -> bool
-    ensures { result ≡ leaf_kind kind.now }
-{
-    match kind {
-        WordKind::Terminal(_) => false,
-        WordKind::Literal(_) => true,
-        WordKind::Variable => true,
-        WordKind::Wild => false,
-        WordKind::EmptyList => false,
-    }
-}
-
-fn is_wild(kind: &WordKind) -> bool
-    ensures { result ≡ wild_kind kind.now }
-{
-    match kind {
-        WordKind::Terminal(_) => false,
-        WordKind::Literal(_) => false,
-        WordKind::Variable => false,
-        WordKind::Wild => true,
-        WordKind::EmptyList => false,
-    }
-}
-
-/// The token at a place is a variable without a sort.
-fn is_wild_at(tokens: &[Word], at: usize) -> bool
-    ensures { result ≡ wild_at tokens.now at }
-{
-    match tokens.get(at) {
-        Some(word) => is_wild(&word.kind),
-        None => false,
-    }
-}
-
-fn is_empty(kind: &WordKind) -> bool
-    ensures { IsTrue result ↔ (kind.now ≡ EmptyKind) }
-{
-    match kind {
-        WordKind::Terminal(_) => false,
-        WordKind::Literal(_) => false,
-        WordKind::Variable => false,
-        WordKind::Wild => false,
-        WordKind::EmptyList => true,
-    }
-}
-
-/// The token at a place is the empty list of a sort, or the empty sequence, of sort K.
-fn is_empty_at(tokens: &[Word], at: usize, sort: u32) -> bool
-    ensures { IsTrue result ↔ IsWordAt tokens.now at EmptyKind sort }
-{
-    let Some(word) = tokens.get(at) else {
-        return false;
-    };
-    if !is_empty(&word.kind) {
-        return false;
-    }
-    word.sort == sort
-}
 
 /// The token at a place is the empty list of some sort, or the empty sequence.
 fn is_any_empty_at(tokens: &[Word], at: usize) -> bool
