@@ -13,14 +13,14 @@ use Rattle.grammar_terms.specs.Reading.{is_leaf, is_wild, is_wild_at, is_wild_le
 use Rattle.k_terms.specs.Sorts.{sort_kitem}
 use Rattle.std.specs.Prelude.{◌==◌, slice_get}
 use Rattle.grammar_terms.specs.Reading.{item_sort}
-use Rattle.span_table.specs.declared.row.Class.{Class}
-use Rattle.span_table.specs.declared.row.Class.TheVariants.{Lone, Wild, Other}
-use Rattle.span_table.specs.declared.row.Held.TheVariants.{One}
-use Rattle.span_table.specs.declared.sign.Sign.{Sign}
-use Rattle.span_table.specs.declared.sign.Sign.TheVariants.{Open, Leaf as LeafSign, Node as NodeSign, Items as ItemsSign, ItemsAnd}
+use Rattle.span_rows.specs.declared.row.Class.{Class}
+use Rattle.span_rows.specs.declared.row.Class.TheVariants.{Lone, Wild, Other}
+use Rattle.span_rows.specs.declared.row.Held.TheVariants.{One}
+use Rattle.span_rows.specs.declared.sign.Sign.{Sign}
+use Rattle.span_rows.specs.declared.sign.Sign.TheVariants.{Open, Leaf as LeafSign, Node as NodeSign, Items as ItemsSign, ItemsAnd}
 use Rattle.span_table.specs.Codes.{items_sign, code_of, row_code, codes_of, read_back}
-use Rattle.span_table.specs.Rows.{is_no_lone, takes_class}
-use Rattle.span_table.specs.Steps.{class_in, held_of, list_of}
+use Rattle.span_rows.specs.Rows.{is_no_lone, takes_class}
+use Rattle.span_rows.specs.Steps.{class_in, held_of, list_of}
 
 row_code_is : {n : Count} (r : Row_of-Shape n) → row_code r ≡ codes_of (items-the_row-Shape n r)
 unfolding row_code

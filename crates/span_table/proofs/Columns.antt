@@ -13,10 +13,11 @@ use Rattle.grammar_terms.specs.declared.word.WordKind.{WordKind}
 use Rattle.grammar_terms.specs.Cuts.{Has}
 use Rattle.grammar_terms.specs.Reading.{IsWordAt, is_wild, is_wild_at}
 use Rattle.grammar_terms.specs.Grammar.{Syntax}
-use Rattle.span_table.specs.declared.row.Row.{Row}
-use Rattle.span_table.specs.Rows.{Kept, GoesOn, Finishes, Grows}
+use Rattle.span_rows.specs.declared.row.Row.{Row}
+use Rattle.span_rows.specs.Rows.{Kept, GoesOn, Finishes, Grows}
 use Rattle.span_table.specs.Meaning.{AreSound}
-use Rattle.span_table.specs.Table.{IsToken, IsFull, IsSoundUpTo, IsSoundColumn, IsFullColumn, AreFullColumns, IsEmptySpan, IsFullTable, rows_of}
+use Rattle.span_rows.specs.Tokens.{IsToken}
+use Rattle.span_table.specs.Table.{IsFull, IsSoundUpTo, IsSoundColumn, IsFullColumn, AreFullColumns, IsEmptySpan, IsFullTable, rows_of}
 
 -- what is so of each item of a list and those before it, with one item more
 each_pushed : {X : Type 0} (P : ℕ → List X → X → Type 0) (xs : List X) (x d : X) (count : ℕ) → length xs ≡ count

@@ -11,11 +11,11 @@ use Rattle.grammar_terms.specs.declared.word.Word.{Word}
 use Rattle.grammar_terms.specs.declared.word.WordKind.TheVariants.{Variable, EmptyList}
 use Rattle.grammar_terms.specs.Grammar.{Syntax, production_at, is_list, step_from, lone_sort}
 use Rattle.grammar_terms.specs.Reading.{reads_plain, reads_bracket, reads_list, reads_rest, reads_empty, Parts, no_item, terminal_item, sort_item, Elements, no_element, first_element, next_element, Child, IsPlain, IsBetween, IsTerminalAt, IsWordAt, is_wild_alone}
-use Rattle.span_table.specs.declared.row.Class.{Class}
-use Rattle.span_table.specs.declared.row.Class.TheVariants.{Other}
-use Rattle.span_table.specs.declared.sign.Sign.TheVariants.{Open, Node as NodeSign, Items as ItemsSign, ItemsAnd}
+use Rattle.span_rows.specs.declared.row.Class.{Class}
+use Rattle.span_rows.specs.declared.row.Class.TheVariants.{Other}
+use Rattle.span_rows.specs.declared.sign.Sign.TheVariants.{Open, Node as NodeSign, Items as ItemsSign, ItemsAnd}
 use Rattle.span_table.specs.Codes.{codes_of}
-use Rattle.span_table.specs.Steps.{class_in, held_of, is_nothing, class_of, list_of, part_sort, part_text, sort_by, text_by, separator_wanted, count_by, count_in_list, list_class, plain_class, class_by, whole_class, plain_code, code_by, whole_code, is_read_by, is_read, is_none, is_some}
+use Rattle.span_rows.specs.Steps.{class_in, held_of, is_nothing, class_of, list_of, part_sort, part_text, sort_by, text_by, separator_wanted, count_by, count_in_list, list_class, plain_class, class_by, whole_class, plain_code, code_by, whole_code, is_read_by, is_read, is_none, is_some}
 use Rattle.span_table.specs.Meaning.{Goes, begins, passes, extends, IsWholeRow}
 use Rattle.span_table.proofs.Coding.{code_of-Node, code_of-Items, class_in-Node, class_in-nothing, class_in-rest, list_tells, codes_of-one}
 

@@ -6,19 +6,19 @@ use Rattle.grammar_terms.specs.declared.shape.Shape.{Shape, Leaf, Items}
 use Rattle.grammar_terms.specs.declared.word.Word.{Word}
 use Rattle.grammar_terms.specs.Grammar.{Syntax, production_at}
 use Rattle.grammar_terms.specs.Reading.{Child, stands_leaf, stands_wild, stands_reading, stands_nothing, stands_sequence, Sequence as AreParts, one_part, next_part, Joins as IsPart, joins_item, joins_variable, IsForRules, IsTerminalAt}
-use Rattle.span_table.specs.declared.row.Class.{Class}
-use Rattle.span_table.specs.declared.row.Class.TheVariants.{Other}
-use Rattle.span_table.specs.declared.row.Held.{Held}
-use Rattle.span_table.specs.declared.row.Held.TheVariants.{Nothing, One, More}
-use Rattle.span_table.specs.declared.row.Key.{Key}
-use Rattle.span_table.specs.declared.row.Key.TheVariants.{Front, Whole, Token, Wild, Sequence}
-use Rattle.span_table.specs.declared.row.Row.{Row}
-use Rattle.span_table.specs.declared.sign.Sign.{Sign}
-use Rattle.span_table.specs.declared.sign.Sign.TheVariants.{Open, Leaf as LeafSign, Items as ItemsSign, ItemsAnd}
+use Rattle.span_rows.specs.declared.row.Class.{Class}
+use Rattle.span_rows.specs.declared.row.Class.TheVariants.{Other}
+use Rattle.span_rows.specs.declared.row.Held.{Held}
+use Rattle.span_rows.specs.declared.row.Held.TheVariants.{Nothing, One, More}
+use Rattle.span_rows.specs.declared.row.Key.{Key}
+use Rattle.span_rows.specs.declared.row.Key.TheVariants.{Front, Whole, Token, Wild, Sequence}
+use Rattle.span_rows.specs.declared.row.Row.{Row}
+use Rattle.span_rows.specs.declared.sign.Sign.{Sign}
+use Rattle.span_rows.specs.declared.sign.Sign.TheVariants.{Open, Leaf as LeafSign, Items as ItemsSign, ItemsAnd}
 use Rattle.span_table.specs.Codes.{code_of, codes_of}
-use Rattle.span_table.specs.Steps.{class_in, held_of, held_with, is_nothing, count_after, whole_class, whole_code, is_read}
-use Rattle.span_table.specs.Rows.{row, Stands, takes_class, key_class, Extends, Joins, Grows, Finishes, Passes, Rests, Arrows, Closes, Binds, GoesOn, IsSeed, IsOfSome, IsJoin, IsNear, Adds}
-use Rattle.span_table.specs.Table.{IsLeafToken, IsWildToken, IsEmptyListOf, IsNothingToken, IsOpening, IsToken}
+use Rattle.span_rows.specs.Steps.{class_in, held_of, held_with, is_nothing, count_after, whole_class, whole_code, is_read}
+use Rattle.span_rows.specs.Rows.{row, Stands, takes_class, key_class, Extends, Joins, Grows, Finishes, Passes, Rests, Arrows, Closes, Binds, GoesOn, IsSeed, IsOfSome, IsJoin, IsNear, Adds}
+use Rattle.span_rows.specs.Tokens.{IsLeafToken, IsWildToken, IsEmptyListOf, IsNothingToken, IsOpening, IsToken}
 use Rattle.span_table.specs.Meaning.{Goes, begins, passes, extends, IsFrontRow, Begun, IsBegunRow, IsWholeRow, IsSequenceRow, Says, AreSound}
 use Rattle.span_table.proofs.Finishing.{whole_ends, rest_ends, empty_list_row}
 use Rattle.span_table.proofs.Coding.{code_of-Leaf, code_of-Items, codes_of-one, codes_of-more, leaf_class, variable_class, wild_class, takes_is, class_in-nothing, class_in-several}

@@ -3,11 +3,12 @@ use Rattle.std.proofs.Common.{ℕ, ◌+◌, ◌-◌, ◌<◌, ◌≤◌, ◌≡�
 use Rattle.std.proofs.Math.Nat.{eq-or-lt_of_le}
 use Rattle.grammar_terms.specs.declared.word.Word.{Word}
 use Rattle.grammar_terms.specs.Grammar.{Syntax}
-use Rattle.span_table.specs.declared.row.Row.{Row}
-use Rattle.span_table.specs.Rows.{Adds, IsMade, IsJoin, GoesOn}
+use Rattle.span_rows.specs.declared.row.Row.{Row}
+use Rattle.span_rows.specs.Rows.{Adds, IsMade, IsJoin, GoesOn}
 use Rattle.span_table.specs.Meaning.{Says, AreSound}
-use Rattle.span_table.specs.Table.{IsTokenOver, IsMiddle, IsFull, IsSaturated, KeepsSound, IsSoundUpTo, IsSoundColumn, rows_of}
-use Rattle.span_table.proofs.Adding.{adds_none, adds_both, adds_as, grown}
+use Rattle.span_rows.specs.Tokens.{IsTokenOver}
+use Rattle.span_table.specs.Table.{IsMiddle, IsFull, IsSaturated, KeepsSound, IsSoundUpTo, IsSoundColumn, rows_of}
+use Rattle.span_rows.proofs.Adding.{adds_none, adds_both, adds_as, grown}
 use Rattle.span_table.proofs.Sounding.{says_token, says_gone, says_joined, adds_sound}
 
 -- ---- two parts of a span

@@ -7,16 +7,16 @@ use Rattle.grammar_terms.specs.declared.word.Word.{Word}
 use Rattle.grammar_terms.specs.Cuts.{Has}
 use Rattle.grammar_terms.specs.Grammar.{Syntax, production_at}
 use Rattle.grammar_terms.specs.Reading.{Reads, Child, Sequence as AreParts, IsForRules, IsLeafAt, IsTerminalAt, is_wild_at}
-use Rattle.span_table.specs.declared.row.Class.{Class}
-use Rattle.span_table.specs.declared.row.Class.TheVariants.{Other}
-use Rattle.span_table.specs.declared.row.Held.{Held}
-use Rattle.span_table.specs.declared.row.Key.{Key}
-use Rattle.span_table.specs.declared.row.Key.TheVariants.{Front, Whole, Token, Wild, Sequence}
-use Rattle.span_table.specs.declared.row.Row.{Row}
-use Rattle.span_table.specs.declared.sign.Sign.{Sign}
-use Rattle.span_table.specs.declared.sign.Sign.TheVariants.{Leaf as LeafSign}
+use Rattle.span_rows.specs.declared.row.Class.{Class}
+use Rattle.span_rows.specs.declared.row.Class.TheVariants.{Other}
+use Rattle.span_rows.specs.declared.row.Held.{Held}
+use Rattle.span_rows.specs.declared.row.Key.{Key}
+use Rattle.span_rows.specs.declared.row.Key.TheVariants.{Front, Whole, Token, Wild, Sequence}
+use Rattle.span_rows.specs.declared.row.Row.{Row}
+use Rattle.span_rows.specs.declared.sign.Sign.{Sign}
+use Rattle.span_rows.specs.declared.sign.Sign.TheVariants.{Leaf as LeafSign}
 use Rattle.span_table.specs.Codes.{code_of, codes_of}
-use Rattle.span_table.specs.Steps.{sort_wanted, text_wanted, count_after, class_in, held_of, is_read}
+use Rattle.span_rows.specs.Steps.{sort_wanted, text_wanted, count_after, class_in, held_of, is_read}
 
 -- The items of a production that were read, one by one, read the tokens from one place up to another, with these shapes.
 pub data Goes (g : Syntax) (words : List Word) (p : ℕ) (production : Production) : ℕ → ℕ → ℕ → List Shape → Type 0 where

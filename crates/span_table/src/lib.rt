@@ -3,17 +3,9 @@
 #![tactic(auto)]
 
 mod codes;
-mod going;
-mod joins;
 mod passes;
 mod readings;
-mod row;
-mod rows;
-mod sign;
-mod slot;
-mod steps;
 mod table;
-mod tokens;
 
 pub use readings::all_readings;
 

@@ -1,16 +1,13 @@
 //! The table of spans.
 ghost use Rattle.std.specs.Prelude.{◌≡◌, ℕ, ◌+◌, ◌-◌, ◌^◌, ◌<◌, ◌≤◌, [], IfOk, get_or, length};
-ghost use Rattle.span_table.specs.Rows.{Adds};
+ghost use Rattle.span_rows.specs.Rows.{Adds};
 ghost use Rattle.span_table.specs.Meaning.{AreSound};
 ghost use Rattle.span_table.specs.Table.{rows_of as rows_by, IsMiddle, IsFull, IsSoundUpTo, IsSoundColumn, IsFullColumn, AreFullColumns, IsEmptySpan, IsFullTable};
 
-use crate::going::go_on_all;
-use crate::joins::join;
 use crate::passes::saturate;
-use crate::row::Row;
-use crate::tokens::add_token;
 use grammar_terms::{Grammar, Word};
 use k_terms::{Many, Memory};
+use span_rows::{Row, add_token, go_on_all, join};
 use std::alloc::Global;
 
 /// The rows of a span.

@@ -1,6 +1,6 @@
 use Rattle.std.proofs.Common.{◌≡◌, ◌+◌, ◌<◌, ◌≤◌, length, get_or, [], subst, ap, ◌∙◌}
-use Rattle.span_table.specs.Rows.{Adds, IsSeedOf}
-use Rattle.span_table.proofs.Seeding.{some_next, some_all}
+use Rattle.span_rows.specs.Rows.{Adds, IsSeedOf}
+use Rattle.span_rows.proofs.Seeding.{some_next, some_all}
 use Rattle.span_table.proofs.passes.seeds.Goals as goal
 
 pub loop-production-preserved : goal.loop-production-preserved

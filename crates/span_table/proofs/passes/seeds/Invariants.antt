@@ -1,6 +1,6 @@
 use Rattle.std.proofs.Common.{◌≡◌, []}
-use Rattle.span_table.specs.Rows.{Adds, IsSeedOf}
-use Rattle.span_table.proofs.Seeding.{UpTo}
+use Rattle.span_rows.specs.Rows.{Adds, IsSeedOf}
+use Rattle.span_rows.proofs.Seeding.{UpTo}
 use Rattle.span_table.proofs.passes.seeds.Given as goal
 
 abbrev pub invariant-loop-production : goal.invariant-loop-production

@@ -1,8 +1,9 @@
 use Rattle.std.proofs.Common.{◌+◌, List, sym, subst}
-use Rattle.span_table.specs.declared.row.Row.{Row}
-use Rattle.span_table.specs.Rows.{Adds, IsMade, GoesOn}
+use Rattle.span_rows.specs.declared.row.Row.{Row}
+use Rattle.span_rows.specs.Rows.{Adds, IsMade, GoesOn}
 use Rattle.span_table.specs.Meaning.{AreSound}
-use Rattle.span_table.specs.Table.{IsTokenOver, IsFull}
+use Rattle.span_rows.specs.Tokens.{IsTokenOver}
+use Rattle.span_table.specs.Table.{IsFull}
 use Rattle.span_table.proofs.Spanning.{full_of, sound_of}
 use Rattle.span_table.proofs.table.fill.Goals as goal
 
