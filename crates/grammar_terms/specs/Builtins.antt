@@ -1,5 +1,5 @@
 -- The builtin productions of a grammar for rules.
-use Rattle.std.specs.Prelude.{ℕ, ◌+◌, ◌-◌, Bool, true, false, ◌&&◌, nat_lt, nat_le, cond, max, fold, List, [], ◌∷◌, ◌++◌, map, take, length, codes, Option, Some, None, slice_get}
+use Rattle.std.specs.Prelude.{ℕ, ◌+◌, ◌-◌, Bool, true, false, ◌&&◌, nat_lt, nat_le, cond, max, fold, List, [], ◌∷◌, ◌++◌, map, take, length, codes, Option, None, slice_get}
 use Rattle.std.specs.List.{range_with_len}
 use Rattle.k_terms.specs.Sorts.{sort_kitem, sort_int, sort_bool, sort_string, sort_map, sort_list}
 use Rattle.k_terms.specs.declared.op.Op.{Op}

@@ -42,12 +42,7 @@ fn at_sort(alloc: Global, sort: u32, value: Value) -> Result<Value, Memory>
 }
 
 /// The value of a list at a place of a sort, or of a sequence, whose number is 0.
-fn list_value(
-    alloc: Global,
-    sort: u32,
-    prod: u32,
-    values: Many<Value>,
-) -> Result<Value, Memory>
+fn list_value(alloc: Global, sort: u32, prod: u32, values: Many<Value>) -> Result<Value, Memory>
     ensures { IfOk result (λ value. value ≡ list_value_of sort prod values) }
 {
     if prod == 0 {

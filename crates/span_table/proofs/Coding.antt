@@ -11,7 +11,7 @@ use Rattle.grammar_terms.specs.declared.word.WordKind.{WordKind}
 use Rattle.grammar_terms.specs.declared.word.WordKind.TheVariants.{Terminal as TerminalWord, Literal, Variable, Wild as WildWord, EmptyList}
 use Rattle.grammar_terms.specs.Reading.{is_leaf, is_wild, is_wild_at, is_wild_leaf, is_wild_alone, is_lone, is_single, takes, IsLeafAt, IsWordAt}
 use Rattle.k_terms.specs.Sorts.{sort_kitem}
-use Rattle.std.specs.Prelude.{◌==◌, slice_get}
+use Rattle.std.specs.Prelude.{◌==◌}
 use Rattle.grammar_terms.specs.Reading.{item_sort}
 use Rattle.span_rows.specs.declared.row.Class.{Class}
 use Rattle.span_rows.specs.declared.row.Class.TheVariants.{Lone, Wild, Other}

@@ -11,9 +11,9 @@ use Rattle.grammar_terms.specs.declared.shape.Shape.{Shape, Leaf, Node, Items}
 use Rattle.grammar_terms.specs.declared.word.Word.{Word}
 use Rattle.grammar_terms.specs.declared.word.WordKind.TheVariants.{Variable}
 use Rattle.grammar_terms.specs.Grammar.{Syntax, production_at, is_list, step_from, lone_sort}
-use Rattle.grammar_terms.specs.Reading.{Reads, reads_plain, reads_bracket, reads_list, reads_rest, reads_empty, Parts, no_item, terminal_item, sort_item, Elements, no_element, first_element, next_element, Child, stands_leaf, stands_wild, stands_reading, stands_nothing, stands_sequence, Sequence as AreParts, one_part, next_part, Joins as IsPart, joins_item, joins_variable, IsForRules, IsPlain, IsListOf, IsBetween, IsTerminalAt, IsWordAt, is_wild_alone}
+use Rattle.grammar_terms.specs.Reading.{Reads, reads_plain, reads_bracket, reads_list, reads_rest, reads_empty, Parts, no_item, terminal_item, sort_item, Elements, no_element, first_element, next_element, Child, stands_leaf, stands_wild, stands_reading, stands_nothing, stands_sequence, Sequence as AreParts, one_part, next_part, Joins as IsPart, joins_item, joins_variable, IsForRules, IsPlain, IsListOf, IsBetween, IsTerminalAt, IsWordAt}
 use Rattle.span_rows.specs.declared.row.Class.{Class}
-use Rattle.span_rows.specs.declared.row.Class.TheVariants.{Wild as WildClass, Other}
+use Rattle.span_rows.specs.declared.row.Class.TheVariants.{Other}
 use Rattle.span_rows.specs.declared.row.Held.{Held}
 use Rattle.span_rows.specs.declared.row.Held.TheVariants.{Nothing, One, More}
 use Rattle.span_rows.specs.declared.row.Key.{Key}
@@ -23,7 +23,7 @@ use Rattle.span_rows.specs.declared.sign.Sign.{Sign}
 use Rattle.span_rows.specs.declared.sign.Sign.TheVariants.{Open, Leaf as LeafSign, Node as NodeSign, Items as ItemsSign, ItemsAnd}
 use Rattle.span_table.specs.Codes.{code_of, codes_of}
 use Rattle.span_rows.specs.Steps.{class_in, held_of, held_with, is_nothing, class_of, list_of, part_sort, part_text, sort_by, sort_wanted, text_by, text_wanted, count_by, count_after, count_in_list, list_class, class_by, whole_class, plain_code, code_by, whole_code, is_read_by, is_read, is_none, is_some}
-use Rattle.span_rows.specs.Rows.{row, Kept, Stands, takes_class, key_class}
+use Rattle.span_rows.specs.Rows.{row, Kept, Stands, key_class}
 use Rattle.span_table.specs.Table.{IsFullTable}
 use Rattle.span_rows.proofs.Adding.{kept_step}
 use Rattle.span_table.proofs.Finishing.{plain_count}

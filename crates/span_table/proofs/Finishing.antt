@@ -10,7 +10,7 @@ use Rattle.grammar_terms.specs.declared.shape.Shape.{Shape, Node, Items}
 use Rattle.grammar_terms.specs.declared.word.Word.{Word}
 use Rattle.grammar_terms.specs.declared.word.WordKind.TheVariants.{Variable, EmptyList}
 use Rattle.grammar_terms.specs.Grammar.{Syntax, production_at, is_list, step_from, lone_sort}
-use Rattle.grammar_terms.specs.Reading.{reads_plain, reads_bracket, reads_list, reads_rest, reads_empty, Parts, no_item, terminal_item, sort_item, Elements, no_element, first_element, next_element, Child, IsPlain, IsBetween, IsTerminalAt, IsWordAt, is_wild_alone}
+use Rattle.grammar_terms.specs.Reading.{reads_plain, reads_bracket, reads_list, reads_rest, reads_empty, Parts, no_item, terminal_item, sort_item, Elements, no_element, first_element, next_element, Child, IsPlain, IsBetween, IsTerminalAt, IsWordAt}
 use Rattle.span_rows.specs.declared.row.Class.{Class}
 use Rattle.span_rows.specs.declared.row.Class.TheVariants.{Other}
 use Rattle.span_rows.specs.declared.sign.Sign.TheVariants.{Open, Node as NodeSign, Items as ItemsSign, ItemsAnd}

@@ -1,5 +1,5 @@
 -- What rows say of a span is so.
-use Rattle.std.proofs.Common.{ℕ, zero, suc, ◌+◌, ◌≡◌, ◌⊎◌, inl, inr, true, List, [], ◌∷◌, ◌++◌, codes, Option, Some, None, refl, sym, ap, ◌∙◌, subst}
+use Rattle.std.proofs.Common.{ℕ, ◌+◌, ◌≡◌, inl, inr, true, List, [], ◌∷◌, ◌++◌, codes, Option, Some, None, refl, sym, ap, ◌∙◌, subst}
 use Rattle.k_terms.specs.Sorts.{sort_k, sort_kitem}
 use Rattle.grammar_terms.specs.declared.production.Production.{Production}
 use Rattle.grammar_terms.specs.declared.shape.Shape.{Shape, Leaf, Items}
@@ -17,11 +17,11 @@ use Rattle.span_rows.specs.declared.sign.Sign.{Sign}
 use Rattle.span_rows.specs.declared.sign.Sign.TheVariants.{Open, Leaf as LeafSign, Items as ItemsSign, ItemsAnd}
 use Rattle.span_table.specs.Codes.{code_of, codes_of}
 use Rattle.span_rows.specs.Steps.{class_in, held_of, held_with, is_nothing, count_after, whole_class, whole_code, is_read}
-use Rattle.span_rows.specs.Rows.{row, Stands, takes_class, key_class, Extends, Joins, Grows, Finishes, Passes, Rests, Arrows, Closes, Binds, GoesOn, IsSeed, IsOfSome, IsJoin, IsNear, Adds}
-use Rattle.span_rows.specs.Tokens.{IsLeafToken, IsWildToken, IsEmptyListOf, IsNothingToken, IsOpening, IsToken}
+use Rattle.span_rows.specs.Rows.{row, Stands, takes_class, key_class, Extends, Grows, Finishes, Passes, Rests, Arrows, Closes, Binds, GoesOn, IsSeed, IsJoin, IsNear, Adds}
+use Rattle.span_rows.specs.Tokens.{IsToken}
 use Rattle.span_table.specs.Meaning.{Goes, begins, passes, extends, IsFrontRow, Begun, IsBegunRow, IsWholeRow, IsSequenceRow, Says, AreSound}
 use Rattle.span_table.proofs.Finishing.{whole_ends, rest_ends, empty_list_row}
-use Rattle.span_table.proofs.Coding.{code_of-Leaf, code_of-Items, codes_of-one, codes_of-more, leaf_class, variable_class, wild_class, takes_is, class_in-nothing, class_in-several}
+use Rattle.span_table.proofs.Coding.{code_of-Leaf, code_of-Items, codes_of-more, leaf_class, variable_class, wild_class, takes_is, class_in-nothing, class_in-several}
 
 some_same : {X : Type 0} (x y : X) → Some x ≡ Some y → x ≡ y
 some_same x y same = cc

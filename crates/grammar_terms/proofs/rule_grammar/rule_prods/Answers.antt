@@ -1,4 +1,4 @@
-use Rattle.std.proofs.Common.{◌≡◌, ◌++◌, length, ap, ◌∙◌, append_assoc}
+use Rattle.std.proofs.Common.{◌++◌, length, ap, ◌∙◌, append_assoc}
 use Rattle.grammar_terms.specs.Builtins.{operator_prods, bracket_prods, builtin_prods}
 use Rattle.grammar_terms.proofs.rule_grammar.rule_prods.Goals as goal
 

@@ -1,5 +1,4 @@
 use Rattle.std.proofs.Common.{◌≡◌, ◌+◌, ◌<◌, ◌≤◌, length, get_or, subst, ap, ◌∙◌, refl}
-use Rattle.grammar_terms.specs.declared.production.Production.{Production}
 use Rattle.span_rows.specs.Rows.{Adds, IsOfSome}
 use Rattle.span_rows.specs.Tokens.{IsEmptyListOf}
 use Rattle.span_rows.proofs.Adding.{adds_none}
