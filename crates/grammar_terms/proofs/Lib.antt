@@ -4,3 +4,4 @@ pub mod Backward
 pub mod ShapeValues
 pub mod Telling
 pub mod Standing
+pub mod Free
