@@ -1,5 +1,5 @@
 -- What is of no group is kept out nowhere, and keeps nothing out.
-use Rattle.std.proofs.Common.{ℕ, zero, suc, ◌≡◌, ◌+◌, ◌-◌, ◌<◌, ◌≤◌, ◌⊎◌, inl, inr, max, Bool, true, false, true≢false, ◌&&◌, ◌||◌, not, cond, List, [], ◌∷◌, ◌++◌, length, map, take, Option, Some, None, option_map, slice_get, refl, sym, ap, ◌∙◌, subst, arith, eq-eqb}
+use Rattle.std.proofs.Common.{ℕ, zero, suc, ◌≡◌, ◌+◌, ◌-◌, ◌<◌, ◌≤◌, ◌⊎◌, inl, inr, max, Bool, true, false, ◌&&◌, ◌||◌, not, cond, List, [], ◌∷◌, ◌++◌, length, map, Option, Some, None, slice_get, refl, sym, ap, ◌∙◌, subst, arith}
 use Rattle.std.specs.Prelude.{◌==◌, nat_lt}
 use Rattle.std.specs.List.{fold, range_with_len}
 use Rattle.std.proofs.lemmas.Bool.{cases_eq}
@@ -198,10 +198,10 @@ module _ (g : Syntax) where
   free_stands n other place p is last = (
     elim (production_at prods other) as (λ it. production_at prods other ≡ it
         → elim it [ None ↦ true | Some outer ↦ elim (production_at prods n) [ None ↦ true | Some inner ↦ permits outer place inner ] ] ≡ true) [
-      | None ↦ λ e. refl
-      | Some outer ↦ λ e.
-          ap (λ it. elim it [ None ↦ true | Some inner ↦ permits outer place inner ]) is ∙ free_as_child outer place p (each_stands other outer e) (each_stands n p is) last
-    ] refl,
+          | None ↦ λ e. refl
+          | Some outer ↦ λ e.
+              ap (λ it. elim it [ None ↦ true | Some inner ↦ permits outer place inner ]) is ∙ free_as_child outer place p (each_stands other outer e) (each_stands n p is) last
+        ] refl,
     ap (λ it. elim it [ None ↦ true | Some outer ↦ elim (production_at prods other) [ None ↦ true | Some inner ↦ permits outer place inner ] ]) is
         ∙ elim (production_at prods other) as (λ it. production_at prods other ≡ it → elim it [ None ↦ true | Some inner ↦ permits p place inner ] ≡ true) [
           | None ↦ λ e. refl

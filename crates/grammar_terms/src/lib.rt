@@ -1,5 +1,5 @@
-//! The grammar of a definition's programs and rules: its sorts and productions, which child may stand at which place, what a
-//! reading of tokens is, and what its value is.
+//! The grammar of a definition's programs and rules: its sorts and productions, which child may stand at which place,
+//! what a reading of tokens is, and what its value is.
 #![tactic(auto)]
 
 mod builtin;
