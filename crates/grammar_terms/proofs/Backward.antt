@@ -14,16 +14,18 @@ abbrev leaf_back : List ℕ → Shape × List ℕ
 leaf_back [] = (Leaf 0, [])
 leaf_back (at ∷ places) = (Leaf at, places)
 
-abbrev first_shape : List Shape → Shape
-first_shape [] = Leaf 0
-first_shape (shape ∷ shapes) = shape
+-- the shape of a sequence: that of its one item, or else of all
+abbrev sequence_shape : List Shape → Shape
+sequence_shape [] = Items 0 [] None
+sequence_shape (shape ∷ []) = shape
+sequence_shape (first ∷ second ∷ shapes) = Items 0 (first ∷ second ∷ shapes) None
 
 -- From the places of literals that are left, the shape of a value, and those that are left then.
 mutual
   pub back : Value → List ℕ → Shape × List ℕ
   back (Node' p _ parts) places = (Node p (row_back parts places).0, (row_back parts places).1)
   back (Items' p _ parts) places = (Items p (row_back parts places).0 None, (row_back parts places).1)
-  back (Seq' _ parts) places = (first_shape (row_back parts places).0, (row_back parts places).1)
+  back (Seq' _ parts) places = (sequence_shape (row_back parts places).0, (row_back parts places).1)
   back (Int _) places = leaf_back places
   back (Truth _) places = leaf_back places
   back (Str _) places = leaf_back places
@@ -45,7 +47,7 @@ all_back (v ∷ vs) places = ((back v places).0 ∷ (all_back vs (back v places)
 level_back : Value-F Value → List ℕ → Shape × List ℕ
 level_back (Node-F p vs) places = (Node p (all_back vs places).0, (all_back vs places).1)
 level_back (Items-F p vs) places = (Items p (all_back vs places).0 None, (all_back vs places).1)
-level_back (Seq-F vs) places = (first_shape (all_back vs places).0, (all_back vs places).1)
+level_back (Seq-F vs) places = (sequence_shape (all_back vs places).0, (all_back vs places).1)
 level_back (Int-F _) places = leaf_back places
 level_back (Truth-F _) places = leaf_back places
 level_back (Str-F _) places = leaf_back places
@@ -69,7 +71,7 @@ abbrev list_made : ℕ → List Shape × List ℕ → Shape × List ℕ
 list_made p it = (Items p it.0 None, it.1)
 
 abbrev first_made : List Shape × List ℕ → Shape × List ℕ
-first_made it = (first_shape it.0, it.1)
+first_made it = (sequence_shape it.0, it.1)
 
 back_levels : (v : Value) (places : List ℕ) → back v places ≡ level_back (out-Value v) places
 unfolding back level_back out-Value out
@@ -93,9 +95,14 @@ pub back-Items : (p : ℕ) (vs : List Value) (places : List ℕ) → back (Items
 unfolding level_back
 back-Items p vs places = back_levels _ places ∙ ap (λ v. level_back v places) (outs-Items p vs)
 
-back-Seq : (vs : List Value) (places : List ℕ) → back (SeqV vs) places ≡ (first_shape (all_back vs places).0, (all_back vs places).1)
+back-Seq : (vs : List Value) (places : List ℕ) → back (SeqV vs) places ≡ (sequence_shape (all_back vs places).0, (all_back vs places).1)
 unfolding level_back
 back-Seq vs places = back_levels _ places ∙ ap (λ v. level_back v places) (outs-Seq vs)
+
+-- a sequence of two items or more has the shape of a sequence
+pub back_sequence : (vs : List Value) (places last : List ℕ) (first second : Shape) (shapes : List Shape) → all_back vs places ≡ (first ∷ second ∷ shapes, last)
+    → back (SeqV vs) places ≡ (Items 0 (first ∷ second ∷ shapes) None, last)
+back_sequence vs places last first second shapes is = back-Seq vs places ∙ ap first_made is
 
 -- a sequence of one item has the shape of the item
 pub back_one : (v : Value) (places : List ℕ) → back (SeqV (v ∷ [])) places ≡ back v places

@@ -1,5 +1,5 @@
 -- A reading of a program's tokens is told by its value.
-use Rattle.std.proofs.Common.{ℕ, suc, ◌≡◌, ◌+◌, ◌==◌, Bool, true, false, cond, List, [], ◌∷◌, ◌++◌, length, map, take, drop, slice_get, Option, Some, None, option_map, refl, sym, ap, ◌∙◌, subst, add-one, drop-cons, zero, length-append}
+use Rattle.std.proofs.Common.{ℕ, suc, ◌≡◌, inl, inr, ◌+◌, ◌-◌, ◌==◌, Bool, true, false, cond, List, [], ◌∷◌, ◌++◌, length, map, take, drop, slice_get, codes, Option, Some, None, option_map, refl, sym, ap, ◌∙◌, subst, true≢false, add-one, drop-cons, zero, length-append}
 use Rattle.std.proofs.Math.Seq.{take-length}
 use Rattle.std.specs.List.{AllByRecursion}
 use Rattle.std.proofs.lemmas.List.{take_more, map_push}
@@ -14,13 +14,15 @@ use Rattle.grammar_terms.specs.declared.word.Word.{Word}
 use Rattle.grammar_terms.specs.declared.word.WordKind.{WordKind}
 use Rattle.grammar_terms.specs.declared.word.WordKind.TheVariants.{Terminal as TerminalWord, Literal, Variable, Wild, EmptyList}
 use Rattle.grammar_terms.specs.Grammar.{Syntax, production_at}
-use Rattle.grammar_terms.specs.Reading.{IsTerminalAt, is_leaf, IsLeafAt, IsListOf, IsBetween, Reads, Parts, Elements, Child, IsReading}
-use Rattle.grammar_terms.specs.Reading.Reads.{reads_plain, reads_bracket, reads_list}
+use Rattle.grammar_terms.specs.Reading.{IsTerminalAt, is_leaf, is_wild, is_wild_at, IsLeafAt, IsWordAt, IsListOf, IsBetween, Reads, Parts, Elements, Child, Sequence, Joins, IsReading}
+use Rattle.grammar_terms.specs.Reading.Reads.{reads_plain, reads_bracket, reads_list, reads_rest, reads_empty}
 use Rattle.grammar_terms.specs.Reading.Parts.{no_item, terminal_item, sort_item}
 use Rattle.grammar_terms.specs.Reading.Elements.{no_element, first_element, next_element}
-use Rattle.grammar_terms.specs.Reading.Child.{stands_leaf, stands_reading}
-use Rattle.grammar_terms.specs.Values.{value_of, values_by, sorts_in, sorts_of, first_or_item, at_sort, literal_at, literal_of, is_plain_value, is_of_program, AreOfProgram}
-use Rattle.grammar_terms.proofs.Backward.{back, all_back, back-Node, back-Items, back_one, all_back_more, back_leaf}
+use Rattle.grammar_terms.specs.Reading.Child.{stands_leaf, stands_wild, stands_reading, stands_nothing, stands_sequence}
+use Rattle.grammar_terms.specs.Reading.Sequence.{one_part, next_part}
+use Rattle.grammar_terms.specs.Reading.Joins.{joins_item, joins_variable}
+use Rattle.grammar_terms.specs.Values.{value_of, values_by, sorts_in, sorts_of, first_or_item, list_value, at_sort, literal_at, literal_of, is_plain_value, is_of_program, AreOfProgram}
+use Rattle.grammar_terms.proofs.Backward.{back, all_back, back-Node, back-Items, back_one, back_sequence, all_back_more, back_leaf}
 use Rattle.grammar_terms.proofs.ShapeValues.{value-Node, value-Items, value_at_sort, values_by_more}
 
 -- ---- lists
@@ -91,6 +93,40 @@ one_or_whole false v left = refl
 at_sort_back : (sort : ℕ) (v : Value) (left : List ℕ) → back (at_sort sort v) left ≡ back v left
 at_sort_back sort v left = one_or_whole (sort == sort_k) v left
 
+-- the value at a place tells what that at one of items does
+any_sort_back : (prods : List Production) (words : List Word) (sort : ℕ) (shape : Shape) (left : List ℕ) → back (value_of prods words sort shape) left ≡ back (value_of prods words sort_kitem shape) left
+any_sort_back prods words sort shape left = elim (value_at_sort prods words sort shape) [
+  | inl made ↦ ap (λ v. back v left) made ∙ at_sort_back sort (value_of prods words sort_kitem shape) left
+  | inr same ↦ ap (λ v. back v left) same
+]
+
+-- ---- a program has none of the tokens of rules
+
+no_word_at : (words : List Word) (at sort : ℕ) (kind : WordKind) → AreOfProgram words → is_of_program kind ≡ false → IsWordAt words at kind sort → ⊥
+no_word_at words at sort kind program none word =
+    true≢false (sym (all_at (λ it. is_of_program it.kind ≡ true) words at word.0 program word.1) ∙ ap is_of_program word.2 ∙ none)
+
+no_wild : (kind : WordKind) → is_of_program kind ≡ true → is_wild kind ≡ true → ⊥
+no_wild (TerminalWord text) program wild = true≢false (sym wild)
+no_wild (Literal value) program wild = true≢false (sym wild)
+no_wild Variable program wild = true≢false (sym wild)
+no_wild Wild program wild = true≢false (sym program)
+no_wild EmptyList program wild = true≢false (sym wild)
+
+no_wild_at : (words : List Word) (at : ℕ) → AreOfProgram words → is_wild_at words at ≡ true → ⊥
+no_wild_at words at program wild = elim (slice_get words at) as (λ it. it ≡ slice_get words at → ⊥) [
+  | None ↦ λ e. true≢false (sym wild ∙ ap (λ it. elim it [ None ↦ false | Some word ↦ is_wild word.kind ]) (sym e))
+  | Some word ↦ λ e.
+      no_wild word.kind (all_at (λ it. is_of_program it.kind ≡ true) words at word program (sym e))
+      (ap (λ it. elim it [ None ↦ false | Some other ↦ is_wild other.kind ]) e ∙ wild)
+] refl
+
+-- ---- numbers of productions
+
+is_numbered : (is_zero : Bool) (found : Option Production) (production : Production) → cond is_zero None found ≡ Some production → is_zero ≡ false
+is_numbered true found production is = cc
+is_numbered false found production is = refl
+
 nothing_back : (left : List ℕ) → all_back [] left ≡ ([], left)
 unfolding all_back
 nothing_back left = refl
@@ -149,7 +185,7 @@ module _ (g : Syntax) (words : List Word) (program : AreOfProgram words) where
   unfolding values_by all_back head_of
   one_back [] shape left last is = λ i. (head_of shape (is i).0, (is i).1)
   one_back (sort ∷ sorts) shape left last is =
-      sym (ap (λ v. back v left) (value_at_sort g.prods words sort shape) ∙ at_sort_back sort (value_of g.prods words sort_kitem shape) left)
+      sym (any_sort_back g.prods words sort shape left)
       ∙ (λ i. (head_of shape (is i).0, (is i).1))
 
   list_back : (p from past element : ℕ) (separator : List ℕ) (shapes : List Shape) (shape : Shape) → IsListOf g.prods p element separator
@@ -158,7 +194,9 @@ module _ (g : Syntax) (words : List Word) (program : AreOfProgram words) where
   list_back p from past element separator shapes shape list elements is =
       let sort : first_or_item (sorts_of g.prods p) ≡ element = ap first_or_item (sorts_are p list.production list.is ∙ ap sorts_in list.element) in
       ap (λ it. back (value_of g.prods words sort_kitem it) (places words from)) is
-      ∙ ap (λ v. back v (places words from)) (value-Items g.prods words sort_kitem p shapes None ∙ ap (λ it. ItemsV p (map (value_of g.prods words it) shapes)) sort)
+      ∙ ap (λ v. back v (places words from)) (value-Items g.prods words sort_kitem p shapes None ∙ ap (λ it. list_value sort_kitem p (map (value_of g.prods words it) shapes)) sort
+      ∙ ap (λ b. cond b (SeqV (map (value_of g.prods words element) shapes)) (ItemsV p (map (value_of g.prods words element) shapes)))
+      (is_numbered (p == 0) (slice_get g.prods (p - 1)) list.production list.is))
       ∙ back-Items p (map (value_of g.prods words element) shapes) (places words from)
       ∙ (λ i. (Items p (elements i).0 None, (elements i).1))
       ∙ ap (λ it. (it, places words past)) (sym is)
@@ -194,6 +232,19 @@ module _ (g : Syntax) (words : List Word) (program : AreOfProgram words) where
       ∙ all_back_more (map (value_of g.prods words sort) shapes) (value_of g.prods words sort shape) (places words from) (places words next) (places words past) shapes shape
       (front ∙ ap (λ left. (shapes, left)) between) last
 
+  -- a sequence in parentheses
+  sequence_back : (sort from at : ℕ) (first second : Shape) (shapes : List Shape) (shape : Shape) → IsTerminalAt words from (codes "(")
+      → all_back (map (value_of g.prods words sort_kitem) (first ∷ second ∷ shapes)) (places words (from + 1)) ≡ (first ∷ second ∷ shapes, places words at)
+      → IsTerminalAt words at (codes ")") → shape ≡ Items 0 (first ∷ second ∷ shapes) None
+      → back (value_of g.prods words sort shape) (places words from) ≡ (shape, places words (at + 1))
+  sequence_back sort from at first second shapes shape opens parts closes is =
+      ap (λ it. back (value_of g.prods words sort it) (places words from)) is
+      ∙ ap (λ v. back v (places words from)) (value-Items g.prods words sort 0 (first ∷ second ∷ shapes) None)
+      ∙ back_sequence (map (value_of g.prods words sort_kitem) (first ∷ second ∷ shapes)) (places words from) (places words (at + 1)) first second shapes
+      (ap (all_back (map (value_of g.prods words sort_kitem) (first ∷ second ∷ shapes))) (places_terminal words from (codes "(") opens) ∙ parts
+      ∙ ap (λ left. (first ∷ second ∷ shapes, left)) (places_terminal words at (codes ")") closes))
+      ∙ ap (λ it. (it, places words (at + 1))) (sym is)
+
   no_values : (production : Production) (from : ℕ) → all_back (values_by g.prods words (sorts_in (take 0 production.items)) []) (places words from) ≡ ([], places words from)
   unfolding values_by all_back
   no_values production from = refl
@@ -203,7 +254,9 @@ module _ (g : Syntax) (words : List Word) (program : AreOfProgram words) where
     reads_back (reads_plain p from past production shapes shape plain no_bracket parts is) = plain_back p from past production shapes shape plain.is (parts_back parts) is
     reads_back (reads_bracket p from past production shape plain bracket parts) =
         one_back (sorts_in production.items) shape (places words from) (places words past) (whole_parts production from past (shape ∷ []) (parts_back parts))
-    reads_back (reads_list p from past element separator shapes shape list elements is) = list_back p from past element separator shapes shape list (elements_back elements) is
+    reads_back (reads_list p from past element separator shapes shape list elements wild is) = list_back p from past element separator shapes shape list (elements_back elements) is
+    reads_back (reads_rest p from at next element separator first shapes shape list elements between rest is) = absurd (no_word_at words next list.production.sort Variable program refl rest)
+    reads_back (reads_empty p at element separator shape list empty is) = absurd (no_word_at words at list.production.sort EmptyList program refl empty)
 
     parts_back : {p : ℕ} {production : Production} {count from at : ℕ} {shapes : List Shape} → Parts g words p production count from at shapes → PartsBack production count from at shapes
     parts_back (no_item p production from) = (refl, no_values production from)
@@ -220,11 +273,23 @@ module _ (g : Syntax) (words : List Word) (program : AreOfProgram words) where
 
     child_back : {place : Option (ℕ × ℕ)} {sort from past : ℕ} {shape : Shape} → Child g words place sort from past shape
         → back (value_of g.prods words sort shape) (places words from) ≡ (shape, places words past)
-    child_back (stands_leaf place sort at own shape leaf below is) = leaf_back sort at own shape leaf is
-    child_back (stands_reading place sort from past p production shape reads at below may takes) =
-        ap (λ v. back v (places words from)) (value_at_sort g.prods words sort shape)
-        ∙ at_sort_back sort (value_of g.prods words sort_kitem shape) (places words from)
-        ∙ reads_back reads
+    child_back (stands_leaf place sort at own shape leaf fits is) = leaf_back sort at own shape leaf is
+    child_back (stands_wild place sort at shape wild is) = absurd (no_wild_at words at program wild)
+    child_back (stands_reading place sort from past p production shape reads at fits may takes) = any_sort_back g.prods words sort shape (places words from) ∙ reads_back reads
+    child_back (stands_nothing place sort at shape k empty is) = absurd (no_word_at words at sort_k EmptyList program refl empty)
+    child_back (stands_sequence place sort from at first second shapes shape k rules opens parts closes is) =
+        sequence_back sort from at first second shapes shape opens (parts_of_sequence_back parts) closes is
+
+    parts_of_sequence_back : {from past : ℕ} {shapes : List Shape} → Sequence g words from past shapes
+        → all_back (map (value_of g.prods words sort_kitem) shapes) (places words from) ≡ (shapes, places words past)
+    parts_of_sequence_back (one_part from past shape part) =
+        all_back_more [] (value_of g.prods words sort_kitem shape) (places words from) (places words from) (places words past) [] shape (nothing_back (places words from)) (joins_back part)
+    parts_of_sequence_back (next_part from at past shapes shape parts arrow part) =
+        element_back sort_kitem from at (at + 1) past [] shapes shape (parts_of_sequence_back parts) (places_terminal words at (codes "~>") arrow) (joins_back part)
+
+    joins_back : {from past : ℕ} {shape : Shape} → Joins g words from past shape → back (value_of g.prods words sort_kitem shape) (places words from) ≡ (shape, places words past)
+    joins_back (joins_item from past shape child) = child_back child
+    joins_back (joins_variable at shape word is) = absurd (no_word_at words at sort_k Variable program refl word)
 
 -- Two readings of a program's tokens that have one value have one shape.
 pub values_tell : (g : Syntax) (sort : ℕ) (words : List Word) (one other : Shape) → AreOfProgram words → IsReading g sort words one → IsReading g sort words other

@@ -1,10 +1,13 @@
 -- The laws of readings.
-use Rattle.std.specs.Prelude.{◌≡◌, ℕ, ◌⊎◌, List, ◌++◌, map, length, Some}
+use Rattle.std.specs.Prelude.{◌≡◌, ◌≤◌, true, ℕ, ◌+◌, ◌⊎◌, List, ◌++◌, map, length, Some}
 use Rattle.grammar_terms.specs.declared.shape.Shape.{Shape, Node}
 use Rattle.grammar_terms.specs.declared.production.Production.{Production}
 use Rattle.grammar_terms.specs.declared.word.Word.{Word}
+use Rattle.grammar_terms.specs.Edges.{permitted}
 use Rattle.grammar_terms.specs.Cuts.{Has, Cuts, IsJoined, joined, IsImage}
-use Rattle.grammar_terms.specs.Grammar.{Syntax}
+use Rattle.k_terms.specs.declared.op.Op.{Op}
+use Rattle.grammar_terms.specs.Builtins.{free_group, placed, operator_form, next_sentence, next_group, declared_prods, with_builtins, operator_of}
+use Rattle.grammar_terms.specs.Grammar.{Syntax, production_at}
 use Rattle.grammar_terms.specs.Reading.{Parts, Child, IsReading}
 use Rattle.grammar_terms.specs.Values.{AreOfProgram, value_of}
 
@@ -33,3 +36,14 @@ CutsShapes = (g : Syntax) (words : List Word) (p : ℕ) (production : Production
 abbrev pub ValuesTell : Type 0
 ValuesTell = (g : Syntax) (sort : ℕ) (words : List Word) (one other : Shape) → AreOfProgram words → IsReading g sort words one → IsReading g sort words other
     → value_of g.prods words sort one ≡ value_of g.prods words sort other → one ≡ other
+
+-- the production that is an operator, by its number, is written as the operator is
+abbrev pub OperatorsStand : Type 0
+OperatorsStand = (g : Syntax) → g.declared ≤ length g.prods → (p : ℕ) (op : Op) → operator_of (with_builtins g) p ≡ Some op
+    → production_at (with_builtins g).prods p ≡ Some (placed (next_sentence (declared_prods g)) (next_group (declared_prods g)) (operator_form op))
+
+-- a builtin production of no group may stand at each place of each production, and each production at each of its places
+abbrev pub FreeStand : Type 0
+FreeStand = (g : Syntax) (free other place : ℕ) (production : Production) → production_at (with_builtins g).prods free ≡ Some production
+    → production.group ≡ next_group (declared_prods g) + free_group
+    → (permitted (with_builtins g).prods other place free ≡ true) × (permitted (with_builtins g).prods free place other ≡ true)

@@ -3,4 +3,5 @@ pub mod Edges
 pub mod Reading
 pub mod Cuts
 pub mod Values
+pub mod Builtins
 pub mod Laws

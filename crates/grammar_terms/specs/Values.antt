@@ -29,6 +29,10 @@ literal_at words at = elim (slice_get words at) [ None ↦ Seq [] | Some word �
 abbrev pub at_sort : ℕ → Value → Value
 at_sort sort value = cond (sort == sort_k) (Seq (value ∷ [])) value
 
+-- the value of a list at a place of a sort, or of a sequence, whose number is 0
+abbrev pub list_value : ℕ → ℕ → List Value → Value
+list_value sort p values = cond (p == 0) (Seq values) (at_sort sort (Items p values))
+
 -- the sorts of the items that are sorts
 abbrev pub sort_of_item : Part → List ℕ
 sort_of_item (Terminal text) = []
@@ -45,12 +49,13 @@ abbrev pub first_or_item : List ℕ → ℕ
 first_or_item [] = sort_kitem
 first_or_item (sort ∷ sorts) = sort
 
--- The value of a shape at a place of a sort, with the productions that its numbers mean and the words that were read.
+-- The value of a shape at a place of a sort, with the productions that its numbers mean and the words that were read. The
+-- shape of a sequence, whose number is 0, has the sequence of its parts.
 unfoldable mutual
   pub value_of : List Production → List Word → ℕ → Shape → Value
   value_of prods words sort (Leaf at) = at_sort sort (literal_at words at)
   value_of prods words sort (NodeS' p _ shapes) = at_sort sort (Node p (values_of prods words (sorts_of prods p) shapes))
-  value_of prods words sort (ItemsS' p _ shapes rest) = at_sort sort (Items p (elements_of prods words (first_or_item (sorts_of prods p)) shapes))
+  value_of prods words sort (ItemsS' p _ shapes rest) = list_value sort p (elements_of prods words (first_or_item (sorts_of prods p)) shapes)
 
   -- the values of arguments, each at its place's sort
   pub values_of : {n : _} → List Production → List Word → List ℕ → Row_of-Shape n → List Value

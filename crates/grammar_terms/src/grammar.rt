@@ -1,12 +1,17 @@
-ghost use Rattle.std.specs.Prelude.{◌≡◌, ◌≤◌, ◌^◌, length, map, IfOk, option_copied, option_map, slice_get, Some, None};
+ghost use Rattle.std.specs.Prelude.{◌≡◌, ◌↔◌, ◌≤◌, ◌^◌, length, map, IfOk, IsTrue, option_copied, option_map, slice_get, Some, None};
 ghost use Rattle.grammar_terms.specs.Grammar.{label_of, order_of, production_at, sort_number as number_of_sort};
+ghost use Rattle.grammar_terms.specs.Builtins.{with_builtins, operator_of};
+ghost use Rattle.grammar_terms.specs.Reading.{IsForRules};
 ghost use Rattle.grammar_terms.specs.Edges.{permitted as may_stand};
 
+use crate::builtin::operator_at;
+use crate::copies::copy_names;
 use crate::edges::permits;
 use crate::labels::labels_of;
 use crate::production::Production;
+use crate::rule_grammar::rule_prods;
 use crate::sort_steps::order_by_prods;
-use k_terms::{Many, Memory, Sorts, Text};
+use k_terms::{Many, Memory, Op, Sorts, Text};
 use std::alloc::Global;
 use std::marker::Model;
 
@@ -28,7 +33,7 @@ impl Model for Grammar {
 
     ghost view = { λ grammar. record { names = grammar.names; prods = grammar.prods; declared = grammar.declared } };
 
-    ghost invariant = { λ grammar. (length grammar.names ≤ 2 ^ 32) × (grammar.labels ≡ map (label_of grammar.names) grammar.prods) × (grammar.sorts ≡ order_by (take grammar.declared grammar.prods)) };
+    ghost invariant = { λ grammar. (length grammar.names ≤ 2 ^ 32) × (grammar.declared ≤ length grammar.prods) × (grammar.labels ≡ map (label_of grammar.names) grammar.prods) × (grammar.sorts ≡ order_by (take grammar.declared grammar.prods)) };
 }
 
 impl Grammar {
@@ -46,6 +51,44 @@ impl Grammar {
             labels,
             sorts,
         })
+    }
+
+    /// The grammar for rules: the declared productions, and behind them the operators in the order of `Op` and parentheses
+    /// for each sort, in the order of their numbers. The operators of no group and the parentheses are kept out nowhere, and
+    /// keep nothing out.
+    pub fn for_rules(&self, alloc: Global) -> Result<Grammar, Memory>
+        ensures { IfOk result (λ grammar. grammar ≡ with_builtins self.now) }
+    {
+        let declared = self.prods.as_slice().split_at(self.declared).0;
+        let names = copy_names(alloc, self.names.as_slice())?;
+        let prods = rule_prods(alloc, names.as_slice(), declared)?;
+        let labels = labels_of(alloc, names.as_slice(), prods.as_slice())?;
+        let sorts = order_by_prods(alloc, declared)?;
+        Ok(Grammar {
+            declared: self.declared,
+            names,
+            prods,
+            labels,
+            sorts,
+        })
+    }
+
+    /// Whether there are builtin productions behind the declared ones.
+    pub fn is_for_rules(&self) -> bool
+        ensures { IsTrue result ↔ IsForRules self.now }
+    {
+        self.declared < self.prods.len()
+    }
+
+    /// The operator that a production is, where it is one.
+    pub fn operator(&self, prod: u32) -> Option<Op>
+        ensures { result ≡ operator_of self.now prod }
+    {
+        if self.declared < prod as usize && prod as usize <= self.prods.len() {
+            operator_at(prod as usize - 1 - self.declared)
+        } else {
+            None
+        }
     }
 
     /// The order of the sorts, and the sort of each declared production.

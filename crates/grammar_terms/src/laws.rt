@@ -1,5 +1,5 @@
 //! Laws of the definitions that contracts cite. The contract of each function is the law.
-ghost use Rattle.grammar_terms.specs.Laws.{CutsAgain, CutsUnions, CutsItems, CutsShapes, ValuesTell};
+ghost use Rattle.grammar_terms.specs.Laws.{CutsAgain, CutsUnions, CutsItems, CutsShapes, ValuesTell, OperatorsStand, FreeStand};
 
 /// What is kept of what is kept tells of the set.
 pub fn cuts_again()
@@ -24,4 +24,14 @@ pub fn cuts_shapes()
 /// Two readings of a program's tokens that have one value have one shape.
 pub fn values_tell()
     ensures { ValuesTell }
+{}
+
+/// The production that is an operator, by its number, is written as the operator is.
+pub fn operators_stand()
+    ensures { OperatorsStand }
+{}
+
+/// A builtin production of no group, as parentheses are, is kept out nowhere, and keeps nothing out.
+pub fn free_stand()
+    ensures { FreeStand }
 {}

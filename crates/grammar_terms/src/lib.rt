@@ -1,20 +1,25 @@
-//! The grammar of a definition's programs: its sorts and productions, which child may stand at which place, what a
-//! reading of a program's tokens is, and what its value is.
+//! The grammar of a definition's programs and rules: its sorts and productions, which child may stand at which place,
+//! what a reading of tokens is, and what its value is.
 #![tactic(auto)]
 
+mod builtin;
+mod copies;
 mod edges;
 mod grammar;
 mod labels;
 pub mod laws;
 mod production;
+mod rule_grammar;
 mod shape;
 mod sort_steps;
+mod tokens;
 mod word;
 
 pub use grammar::Grammar;
 pub use production::{Part, Production};
 pub use shape::{Readings, Shape};
-pub use sort_steps::step_from;
+pub use sort_steps::{lone_sort, step_from};
+pub use tokens::{is_empty, is_empty_at, is_leaf, is_terminal_at, is_variable_at, is_wild_at};
 pub use word::{Word, WordKind};
 
 #[cfg(test)]

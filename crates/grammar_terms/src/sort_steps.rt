@@ -37,7 +37,7 @@ fn is_list(form: &Form) -> bool
 }
 
 /// The sort of an item that stands alone.
-fn lone_sort(items: &[Part]) -> Option<u32>
+pub fn lone_sort(items: &[Part]) -> Option<u32>
     ensures { result ≡ sort_alone items.now }
 {
     match items {

@@ -1,7 +1,7 @@
 //! The value of a reading.
 ghost use Rattle.std.specs.Prelude.{◌≡◌, ◌++◌, get_or, unwrap_or, IfOk};
 ghost use Rattle.k_terms.specs.Sorts.{sort_kitem};
-ghost use Rattle.grammar_terms.specs.Values.{at_sort as value_at, literal_of, literal_at, sorts_in, sorts_of as sorts_by, first_or_item, value_of, values_by, elements_by};
+ghost use Rattle.grammar_terms.specs.Values.{at_sort as value_at, list_value as list_value_of, literal_of, literal_at, sorts_in, sorts_of as sorts_by, first_or_item, value_of, values_by, elements_by};
 
 use grammar_terms::{Grammar, Part, Shape, Word, WordKind};
 use k_terms::{Many, Memory, Value, copy, sort};
@@ -39,6 +39,16 @@ fn at_sort(alloc: Global, sort: u32, value: Value) -> Result<Value, Memory>
     let mut items = Vec::new(alloc);
     items.push(value)?;
     Ok(Value::Seq(Many::from_vec(items)))
+}
+
+/// The value of a list at a place of a sort, or of a sequence, whose number is 0.
+fn list_value(alloc: Global, sort: u32, prod: u32, values: Many<Value>) -> Result<Value, Memory>
+    ensures { IfOk result (λ value. value ≡ list_value_of sort prod values) }
+{
+    if prod == 0 {
+        return Ok(Value::Seq(values));
+    }
+    at_sort(alloc, sort, Value::Items(prod, values))
 }
 
 /// The sorts of the items that are sorts.
@@ -99,7 +109,7 @@ pub fn value(
             let sorts = sorts_of(alloc, grammar, *prod)?;
             let element = sort_at(&sorts, 0);
             let values = elements(alloc, grammar, words, element, shapes.as_slice())?;
-            at_sort(alloc, sort, Value::Items(*prod, values))
+            list_value(alloc, sort, *prod, values)
         }
     }
 }

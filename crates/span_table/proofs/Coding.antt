@@ -1,16 +1,26 @@
 -- The code of a shape tells the shape.
-use Rattle.std.proofs.Common.{ℕ, ◌≡◌, false, List, [], ◌∷◌, ◌++◌, Option, Some, None, refl, sym, ap, ◌∙◌, append_assoc}
+use Rattle.std.proofs.Common.{ℕ, ◌≡◌, Bool, true, false, true≢false, cond, List, [], ◌∷◌, ◌++◌, Option, Some, None, refl, sym, ap, ◌∙◌, append_assoc}
 use Rattle.std.proofs.lemmas.List.{append-nil}
 use mathlib.Core.Former.{Count, arity, this}
 use denote.Hole.Carrier.{out, roll}
 use Rattle.k_terms.specs.formers.many.Many.{the_former}
 use Rattle.grammar_terms.specs.declared.shape.Shape.{Shape, Leaf, Node, Items, Node' as NodeS', Items' as ItemsS', Row_of-Shape, end_of-Shape, more_of-Shape, items-the_row-Shape, items_hidden-the_row-Shape-0, items_shown-the_row-Shape-0, out-Shape, roll-Shape, roll-out-Shape}
 use Rattle.grammar_terms.specs.declared.shape.Shape.TheBlock.{hidden-the_row-Shape-0, shown-the_row-Shape-0}
-use Rattle.grammar_terms.specs.Reading.{is_lone, is_single}
-use Rattle.span_table.specs.declared.sign.Sign.{Sign}
-use Rattle.span_table.specs.declared.sign.Sign.TheVariants.{Open, Leaf as LeafSign, Node as NodeSign, Items as ItemsSign, ItemsAnd}
+use Rattle.grammar_terms.specs.declared.word.Word.{Word}
+use Rattle.grammar_terms.specs.declared.word.WordKind.{WordKind}
+use Rattle.grammar_terms.specs.declared.word.WordKind.TheVariants.{Terminal as TerminalWord, Literal, Variable, Wild as WildWord, EmptyList}
+use Rattle.grammar_terms.specs.Reading.{is_leaf, is_wild, is_wild_at, is_wild_leaf, is_wild_alone, is_lone, is_single, takes, IsLeafAt, IsWordAt}
+use Rattle.k_terms.specs.Sorts.{sort_kitem}
+use Rattle.std.specs.Prelude.{◌==◌}
+use Rattle.grammar_terms.specs.Reading.{item_sort}
+use Rattle.span_rows.specs.declared.row.Class.{Class}
+use Rattle.span_rows.specs.declared.row.Class.TheVariants.{Lone, Wild, Other}
+use Rattle.span_rows.specs.declared.row.Held.TheVariants.{One}
+use Rattle.span_rows.specs.declared.sign.Sign.{Sign}
+use Rattle.span_rows.specs.declared.sign.Sign.TheVariants.{Open, Leaf as LeafSign, Node as NodeSign, Items as ItemsSign, ItemsAnd}
 use Rattle.span_table.specs.Codes.{items_sign, code_of, row_code, codes_of, read_back}
-use Rattle.span_table.specs.Steps.{held_of, is_one}
+use Rattle.span_rows.specs.Rows.{is_no_lone, takes_class}
+use Rattle.span_rows.specs.Steps.{class_in, held_of, list_of}
 
 row_code_is : {n : Count} (r : Row_of-Shape n) → row_code r ≡ codes_of (items-the_row-Shape n r)
 unfolding row_code
@@ -30,24 +40,114 @@ unfolding code_of
 code_of-Items p shapes rest =
     ap (λ code. Open ∷ code ++ items_sign p rest ∷ []) (row_code_is (hidden-the_row-Shape-0 shapes) ∙ ap codes_of (items_hidden-the_row-Shape-0 shapes))
 
-is_single_is : {n : Count} (r : Row_of-Shape n) → is_single r ≡ is_one (held_of (items-the_row-Shape n r))
-unfolding is_single
+is_one : List Shape → Bool
+is_one [] = false
+is_one (shape ∷ []) = true
+is_one (first ∷ second ∷ shapes) = false
+
+is_single_is : {n : Count} (r : Row_of-Shape n) → is_single r ≡ is_one (items-the_row-Shape n r)
+unfolding is_single is_one
 is_single_is end_of-Shape = refl
 is_single_is (more_of-Shape _ end_of-Shape) = refl
 is_single_is (more_of-Shape _ (more_of-Shape _ _)) = refl
 
-pub is_lone-Leaf : (at : ℕ) → is_lone (Leaf at) ≡ false
-unfolding is_lone
-is_lone-Leaf at = refl
+-- ---- classes
 
-pub is_lone-Node : (p : ℕ) (shapes : List Shape) → is_lone (Node p shapes) ≡ false
-unfolding is_lone
-is_lone-Node p shapes = refl
+pub class_in-Leaf : (words : List Word) (at : ℕ) → class_in words (Leaf at) ≡ cond (is_wild_at words at) Wild Other
+unfolding is_lone is_wild_leaf
+class_in-Leaf words at = refl
 
--- a list is a list of one element where one shape is held
-pub is_lone-Items : (p : ℕ) (shapes : List Shape) → is_lone (Items p shapes None) ≡ is_one (held_of shapes)
-unfolding is_lone
-is_lone-Items p shapes = is_single_is (hidden-the_row-Shape-0 shapes) ∙ ap (λ vs. is_one (held_of vs)) (items_hidden-the_row-Shape-0 shapes)
+pub class_in-Node : (words : List Word) (p : ℕ) (shapes : List Shape) → class_in words (Node p shapes) ≡ Other
+unfolding is_lone is_wild_leaf
+class_in-Node words p shapes = refl
+
+-- a list with a rest is no list of one element
+pub class_in-rest : (words : List Word) (p : ℕ) (shapes : List Shape) (rest : ℕ) → class_in words (Items p shapes (Some rest)) ≡ Other
+unfolding is_lone is_wild_leaf
+class_in-rest words p shapes rest = refl
+
+class_in-Items : (words : List Word) (p : ℕ) (shapes : List Shape) → class_in words (Items p shapes None) ≡ cond (is_one shapes) Lone Other
+unfolding is_lone is_wild_leaf
+class_in-Items words p shapes =
+    ap (λ b. cond b Lone Other) (is_single_is (hidden-the_row-Shape-0 shapes) ∙ ap is_one (items_hidden-the_row-Shape-0 shapes))
+
+pub class_in-nothing : (words : List Word) (p : ℕ) → class_in words (Items p [] None) ≡ Other
+unfolding is_one
+class_in-nothing words p = class_in-Items words p []
+
+pub class_in-several : (words : List Word) (p : ℕ) (first second : Shape) (shapes : List Shape) → class_in words (Items p (first ∷ second ∷ shapes) None) ≡ Other
+unfolding is_one
+class_in-several words p first second shapes = class_in-Items words p (first ∷ second ∷ shapes)
+
+leaf_not_wild : (kind : WordKind) → is_leaf kind ≡ true → is_wild kind ≡ false
+leaf_not_wild (TerminalWord text) leaf = refl
+leaf_not_wild (Literal value) leaf = refl
+leaf_not_wild Variable leaf = refl
+leaf_not_wild WildWord leaf = absurd (true≢false (sym leaf))
+leaf_not_wild EmptyList leaf = refl
+
+-- the class of the token at a place
+pub leaf_class : (words : List Word) (at own : ℕ) → IsLeafAt words at own → class_in words (Leaf at) ≡ Other
+unfolding is_lone is_wild_leaf
+leaf_class words at own leaf = class_in-Leaf words at ∙ ap (λ b. cond b Wild Other) (ap (λ it. elim it [ None ↦ false | Some word ↦ is_wild word.kind ]) leaf.1 ∙ leaf_not_wild leaf.0.kind leaf.2)
+
+pub variable_class : (words : List Word) (at sort : ℕ) → IsWordAt words at Variable sort → class_in words (Leaf at) ≡ Other
+variable_class words at sort word =
+    class_in-Leaf words at ∙ ap (λ b. cond b Wild Other) (ap (λ it. elim it [ None ↦ false | Some other ↦ is_wild other.kind ]) word.1 ∙ ap is_wild word.2)
+
+pub wild_class : (words : List Word) (at : ℕ) → is_wild_at words at ≡ true → class_in words (Leaf at) ≡ Wild
+wild_class words at wild = class_in-Leaf words at ∙ ap (λ b. cond b Wild Other) wild
+
+-- a variable without a sort is no list of one element
+wild_not_lone : (words : List Word) (shape : Shape) → is_wild_leaf words shape ≡ true → is_lone shape ≡ false
+unfolding is_lone is_wild_leaf
+wild_not_lone words (Leaf at) wild = refl
+wild_not_lone words (NodeS' p s row) wild = refl
+wild_not_lone words (ItemsS' p s row None) wild = absurd (true≢false (sym wild))
+wild_not_lone words (ItemsS' p s row (Some rest)) wild = refl
+
+taken_by : (wild lone : Bool) → (wild ≡ true → lone ≡ false) → cond lone false true ≡ is_no_lone (cond wild Wild (cond lone Lone Other))
+taken_by true true apart = absurd (true≢false (apart refl))
+taken_by true false apart = refl
+taken_by false true apart = refl
+taken_by false false apart = refl
+
+pub takes_is : (words : List Word) (sort : ℕ) (shape : Shape) → takes sort shape ≡ takes_class sort (class_in words shape)
+takes_is words sort shape = ap (λ b. cond (item_sort sort == sort_kitem) b true) (taken_by (is_wild_leaf words shape) (is_lone shape) (wild_not_lone words shape))
+
+list_of_one : (lone : Bool) → list_of (One (cond lone Lone Other)) ≡ Some Lone
+list_of_one true = refl
+list_of_one false = refl
+
+-- the class of a list of shapes that are no variable without a sort alone
+pub list_held : (words : List Word) (p : ℕ) (shapes : List Shape) → is_wild_alone words shapes ≡ false → list_of (held_of words shapes) ≡ Some (class_in words (Items p shapes None))
+unfolding is_one
+list_held words p [] alone = ap Some (sym (class_in-Items words p []))
+list_held words p (shape ∷ []) alone =
+    ap (λ b. list_of (One (cond b Wild (cond (is_lone shape) Lone Other)))) alone ∙ list_of_one (is_lone shape) ∙ ap Some (sym (class_in-Items words p (shape ∷ [])))
+list_held words p (first ∷ second ∷ shapes) alone = ap Some (sym (class_in-Items words p (first ∷ second ∷ shapes)))
+
+some_same : (x y : Class) → Some x ≡ Some y → x ≡ y
+some_same x y same = cc
+
+none_some : (x : Class) → None ≡ Some x → ⊥
+none_some x same = cc
+
+not_wild : (wild lone : Bool) (class : Class) → list_of (One (cond wild Wild (cond lone Lone Other))) ≡ Some class → wild ≡ false
+not_wild true lone class is = absurd (none_some class is)
+not_wild false lone class is = refl
+
+alone_tells : (words : List Word) (shapes : List Shape) (class : Class) → list_of (held_of words shapes) ≡ Some class → is_wild_alone words shapes ≡ false
+alone_tells words [] class is = refl
+alone_tells words (shape ∷ []) class is = not_wild (is_wild_leaf words shape) (is_lone shape) class is
+alone_tells words (first ∷ second ∷ shapes) class is = refl
+
+-- what is held makes a list of a class where it is no variable without a sort alone, and this is the class
+pub list_tells : (words : List Word) (p : ℕ) (shapes : List Shape) (class : Class) → list_of (held_of words shapes) ≡ Some class
+    → (is_wild_alone words shapes ≡ false) × (class ≡ class_in words (Items p shapes None))
+list_tells words p shapes class is =
+    let alone = alone_tells words shapes class is in
+    (alone, some_same class (class_in words (Items p shapes None)) (sym is ∙ list_held words p shapes alone))
 
 pub codes_of-append : (shapes more : List Shape) → codes_of (shapes ++ more) ≡ codes_of shapes ++ codes_of more
 codes_of-append [] more = refl

@@ -1,5 +1,5 @@
 -- The table column by column.
-use Rattle.std.proofs.Common.{ℕ, ◌+◌, ◌-◌, ◌<◌, ◌≤◌, ◌≡◌, ◌⊎◌, inl, inr, true, false, cond, List, [], ◌∷◌, ◌++◌, length, get_or, take, Some, None, slice_get, refl, sym, ap, ◌∙◌, subst, arith, length-append}
+use Rattle.std.proofs.Common.{ℕ, ◌+◌, ◌-◌, ◌<◌, ◌≤◌, ◌≡◌, ◌⊎◌, inl, inr, true, false, true≢false, cond, List, [], ◌∷◌, ◌++◌, length, get_or, take, Some, None, slice_get, refl, sym, ap, ◌∙◌, subst, arith, length-append}
 use Rattle.std.specs.Prelude.{◌==◌, nat_lt, option_map}
 use Rattle.std.proofs.Math.Nat.{eq-or-lt_of_le}
 use Rattle.std.proofs.Math.ListN.{get_or-append, get_or-eq_default}
@@ -11,10 +11,12 @@ use Rattle.std.proofs.lemmas.Option.{slice_get_within, slice_get_cases}
 use Rattle.grammar_terms.specs.declared.word.Word.{Word}
 use Rattle.grammar_terms.specs.declared.word.WordKind.{WordKind}
 use Rattle.grammar_terms.specs.Cuts.{Has}
+use Rattle.grammar_terms.specs.Reading.{IsWordAt, is_wild, is_wild_at}
 use Rattle.grammar_terms.specs.Grammar.{Syntax}
-use Rattle.span_table.specs.declared.row.Row.{Row}
-use Rattle.span_table.specs.Rows.{Kept, Passes, Finishes, Extends}
+use Rattle.span_rows.specs.declared.row.Row.{Row}
+use Rattle.span_rows.specs.Rows.{Kept, GoesOn, Finishes, Grows}
 use Rattle.span_table.specs.Meaning.{AreSound}
+use Rattle.span_rows.specs.Tokens.{IsToken}
 use Rattle.span_table.specs.Table.{IsFull, IsSoundUpTo, IsSoundColumn, IsFullColumn, AreFullColumns, IsEmptySpan, IsFullTable, rows_of}
 
 -- what is so of each item of a list and those before it, with one item more
@@ -194,6 +196,30 @@ option_within words at kind is = elim (slice_get_cases words at).1 [
   | inr past ↦ absurd (none_kind kind (sym (ap (option_map (λ (word : Word). word.kind)) past.1) ∙ is))
 ]
 
+wild_within : (words : List Word) (at : ℕ) → is_wild_at words at ≡ true → at < length words
+wild_within words at wild = elim (slice_get_cases words at).1 [
+  | inl here ↦ here.1
+  | inr past ↦ absurd (true≢false (sym wild ∙ ap (λ it. elim it [ None ↦ false | Some word ↦ is_wild word.kind ]) past.1))
+]
+
+word_within : (words : List Word) (at : ℕ) (kind : WordKind) (sort : ℕ) → IsWordAt words at kind sort → at < length words
+word_within words at kind sort word = slice_get_within words at word.0 word.1
+
+-- where a row goes on with a token, there is one
+gone_within : (g : Syntax) (words : List Word) (at : ℕ) (front made : Row) → GoesOn g words at front made → at < length words
+gone_within g words at front made (inl e) = option_within words at _ e.stands
+gone_within g words at front made (inr (inl e)) = word_within words at _ _ e.word
+gone_within g words at front made (inr (inr (inl e))) = option_within words at _ e.stands
+gone_within g words at front made (inr (inr (inr (inl e)))) = option_within words at _ e.stands
+gone_within g words at front made (inr (inr (inr (inr e)))) = word_within words at _ _ e.word
+
+token_within : (g : Syntax) (words : List Word) (at : ℕ) (made : Row) → IsToken g words at made → at < length words
+token_within g words at made (inl e) = slice_get_within words at e.leaf.0 e.leaf.1
+token_within g words at made (inr (inl e)) = wild_within words at e.wild
+token_within g words at made (inr (inr (inl e))) = word_within words at _ _ e.makes.word
+token_within g words at made (inr (inr (inr (inl e)))) = word_within words at _ _ e.word
+token_within g words at made (inr (inr (inr (inr e)))) = option_within words at _ e.stands
+
 module _ (g : Syntax) (words : List Word) (empty : List Row) (columns : List (List (List Row))) (span : IsEmptySpan g empty) (full : AreFullColumns g words empty columns (length words)) where
   span_full : (from past : ℕ) → from < past → past ≤ length columns
       → IsFull g words empty (take (past - 1) columns) (take (past - 1 - from) (get_or columns (past - 1) [])) from (past - 1) (rows_of empty columns from past)
@@ -217,9 +243,9 @@ module _ (g : Syntax) (words : List Word) (empty : List Row) (columns : List (Li
   kept_same : (from past : ℕ) (made : Row) → from ≡ past → Kept empty made → Kept (rows_of empty columns from past) made
   kept_same from past made same kept = subst (λ rows. Kept rows made) (sym (rows_of_same empty columns from past same)) kept
 
-  table_passed : (from at : ℕ) (front made : Row) → Has (rows_of empty columns from at) front → Passes g words at front made → Kept (rows_of empty columns from (at + 1)) made
+  table_passed : (from at : ℕ) (front made : Row) → Has (rows_of empty columns from at) front → GoesOn g words at front made → Kept (rows_of empty columns from (at + 1)) made
   table_passed from at front made has pass =
-      let less = option_within words at _ pass.stands in
+      let less = gone_within g words at front made pass in
       let within : from ≤ at = elim (has_cases empty columns from at front has) [ inl same ↦ omega (arith, same.0) | inr before ↦ omega (arith, before.0) ] in
       (last_full from at within less).far made
       (inr (inl (record { front = front; has_front = subst (λ rows. Has rows front) (sym (rows_of_take empty columns at from at (omega arith))) has; makes = pass })))
@@ -230,22 +256,22 @@ module _ (g : Syntax) (words : List Word) (empty : List Row) (columns : List (Li
     | inr before ↦ (span_full from past before.0 before.1).near made (inl (record { front = front; has_front = has; makes = done }))
   ]
 
-  table_extended : (from at past : ℕ) (front child made : Row) → Has (rows_of empty columns from at) front → Has (rows_of empty columns at past) child → Extends g front child made
+  table_extended : (from at past : ℕ) (front child made : Row) → Has (rows_of empty columns from at) front → Has (rows_of empty columns at past) child → Grows g front child made
       → Kept (rows_of empty columns from past) made
   table_extended from at past front child made has also e = elim (has_cases empty columns from at front has) [
     | inl same ↦ elim (has_cases empty columns at past child also) [
-      | inl ends ↦ kept_same from past made (same.0 ∙ ends.0) (span.near made (inr (inl (record { front = front; child = child; has_front = same.1; has_child = ends.1; extends = e }))))
+      | inl ends ↦ kept_same from past made (same.0 ∙ ends.0) (span.near made (inr (inl (record { front = front; child = child; has_front = same.1; has_child = ends.1; grows = e }))))
       | inr before ↦
           let less : from < past = omega (arith, same.0, before.0) in
           (span_full from past less before.1).near made
-          (inr (inl (record { front = front; child = child; has_front = same.1; has_child = subst (λ i. Has (rows_of empty columns i past) child) (sym same.0) also; extends = e })))
+          (inr (inl (record { front = front; child = child; has_front = same.1; has_child = subst (λ i. Has (rows_of empty columns i past) child) (sym same.0) also; grows = e })))
     ]
     | inr first ↦ elim (has_cases empty columns at past child also) [
       | inl ends ↦
           let less : from < past = omega (arith, first.0, ends.0) in
           let within : past ≤ length columns = omega (arith, first.1, ends.0) in
           (span_full from past less within).near made
-          (inr (inr (record { front = front; child = child; has_front = subst (λ m. Has (rows_of empty columns from m) front) ends.0 has; has_child = ends.1; extends = e })))
+          (inr (inr (record { front = front; child = child; has_front = subst (λ m. Has (rows_of empty columns from m) front) ends.0 has; has_child = ends.1; grows = e })))
       | inr before ↦
           let less : from < past = omega (arith, first.0, before.0) in
           let middle : at ≤ past - 1 = omega (arith, before.0) in
@@ -260,7 +286,7 @@ module _ (g : Syntax) (words : List Word) (empty : List Row) (columns : List (Li
               child = child;
               has_front = subst (λ rows. Has rows front) (sym (rows_of_take empty columns (past - 1) from at middle)) has;
               has_child = subst (λ rows. Has rows child) (rows_of_less empty columns at past before.0 ∙ sym (get_or-take (past - 1 - from) (get_or columns (past - 1) []) (past - 1 - at) [] width)) also;
-              extends = e;
+              grows = e;
             };
           })))
     ]
@@ -269,7 +295,7 @@ module _ (g : Syntax) (words : List Word) (empty : List Row) (columns : List (Li
   pub table_full : IsFullTable g words (rows_of empty columns)
   table_full = record {
     seeds = λ at made seed. kept_same at at made refl (span.seeds made seed);
-    tokens = λ at made token. (last_full at at (omega arith) (slice_get_within words at token.leaf.0 token.leaf.1)).far made (inl (refl, token));
+    tokens = λ at made token. (last_full at at (omega arith) (token_within g words at made token)).far made (inl (refl, token));
     passed = table_passed;
     finished = table_finished;
     extended = table_extended;

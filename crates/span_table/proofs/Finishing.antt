@@ -8,13 +8,16 @@ use Rattle.grammar_terms.specs.declared.production.Part.TheVariants.{Terminal, S
 use Rattle.grammar_terms.specs.declared.production.Production.{Production}
 use Rattle.grammar_terms.specs.declared.shape.Shape.{Shape, Node, Items}
 use Rattle.grammar_terms.specs.declared.word.Word.{Word}
+use Rattle.grammar_terms.specs.declared.word.WordKind.TheVariants.{Variable, EmptyList}
 use Rattle.grammar_terms.specs.Grammar.{Syntax, production_at, is_list, step_from, lone_sort}
-use Rattle.grammar_terms.specs.Reading.{reads_plain, reads_bracket, reads_list, Parts, no_item, terminal_item, sort_item, Elements, no_element, first_element, next_element, Child, IsPlain, IsBetween, IsTerminalAt, is_lone}
-use Rattle.span_table.specs.declared.sign.Sign.TheVariants.{Open, Node as NodeSign, Items as ItemsSign}
+use Rattle.grammar_terms.specs.Reading.{reads_plain, reads_bracket, reads_list, reads_rest, reads_empty, Parts, no_item, terminal_item, sort_item, Elements, no_element, first_element, next_element, Child, IsPlain, IsBetween, IsTerminalAt, IsWordAt}
+use Rattle.span_rows.specs.declared.row.Class.{Class}
+use Rattle.span_rows.specs.declared.row.Class.TheVariants.{Other}
+use Rattle.span_rows.specs.declared.sign.Sign.TheVariants.{Open, Node as NodeSign, Items as ItemsSign, ItemsAnd}
 use Rattle.span_table.specs.Codes.{codes_of}
-use Rattle.span_table.specs.Steps.{held_of, is_one, class_of, part_sort, part_text, sort_by, text_by, separator_wanted, count_by, count_in_list, list_class, plain_class, class_by, whole_class, plain_code, code_by, whole_code, is_read_by, is_read, is_none, is_some}
+use Rattle.span_rows.specs.Steps.{class_in, held_of, is_nothing, class_of, list_of, part_sort, part_text, sort_by, text_by, separator_wanted, count_by, count_in_list, list_class, plain_class, class_by, whole_class, plain_code, code_by, whole_code, is_read_by, is_read, is_none, is_some}
 use Rattle.span_table.specs.Meaning.{Goes, begins, passes, extends, IsWholeRow}
-use Rattle.span_table.proofs.Coding.{code_of-Node, code_of-Items, is_lone-Node, is_lone-Items, codes_of-one}
+use Rattle.span_table.proofs.Coding.{code_of-Node, code_of-Items, class_in-Node, class_in-nothing, class_in-rest, list_tells, codes_of-one}
 
 some_same : {X : Type 0} (x y : X) → Some x ≡ Some y → x ≡ y
 some_same x y same = cc
@@ -194,40 +197,52 @@ closed_elements : (g : Syntax) (words : List Word) (p sort : ℕ) (separator : L
     → Elements g words p sort separator from past shapes
 closed_elements g words p sort separator from past shapes closed = subst (λ vs. Elements g words p sort separator from past vs) (sym closed.shapes_are) closed.elements
 
-state_ends : (g : Syntax) (words : List Word) (p sort : ℕ) (separator : List ℕ) (count from past : ℕ) (shapes : List Shape) (lone : Bool)
-    → State g words p sort separator count from past shapes → list_class separator count (held_of shapes) ≡ Some lone
-    → Elements g words p sort separator from past shapes × (lone ≡ is_one (held_of shapes))
-state_ends g words p sort [] count from past shapes lone (inl wide) is = (open_elements g words p sort from past shapes wide.1, sym (some_same (is_one (held_of shapes)) lone is))
-state_ends g words p sort [] count from past shapes lone (inr closed) is = absurd (nil_text closed.1.byte closed.1.bytes closed.1.separator_is)
-state_ends g words p sort (byte ∷ bytes) count from past [] lone (inl wide) is =
+state_ends : (g : Syntax) (words : List Word) (p sort : ℕ) (separator : List ℕ) (count from past : ℕ) (shapes : List Shape) (class : Class)
+    → State g words p sort separator count from past shapes → list_class separator count (held_of words shapes) ≡ Some class
+    → Elements g words p sort separator from past shapes × (list_of (held_of words shapes) ≡ Some class)
+state_ends g words p sort [] count from past shapes class (inl wide) is = (open_elements g words p sort from past shapes wide.1, is)
+state_ends g words p sort [] count from past shapes class (inr closed) is = absurd (nil_text closed.1.byte closed.1.bytes closed.1.separator_is)
+state_ends g words p sort (byte ∷ bytes) count from past [] class (inl wide) is =
     elim wide.1 [
-      | inl none ↦ (subst (λ i. Elements g words p sort (byte ∷ bytes) from i []) none.1 (no_element p sort (byte ∷ bytes) from), sym (some_same false lone is))
+      | inl none ↦ (subst (λ i. Elements g words p sort (byte ∷ bytes) from i []) none.1 (no_element p sort (byte ∷ bytes) from), is)
       | inr b ↦ absurd (nil_cons b.first b.rest b.shapes_are)
     ]
-state_ends g words p sort (byte ∷ bytes) count from past [] lone (inr closed) is = absurd (nil_cons closed.1.first closed.1.rest closed.1.shapes_are)
-state_ends g words p sort (byte ∷ bytes) count from past (one ∷ []) lone (inl wide) is =
-    absurd (none_some lone (subst (λ n. cond (n == 0) None (Some true) ≡ Some lone) wide.0 is))
-state_ends g words p sort (byte ∷ bytes) count from past (one ∷ []) lone (inr closed) is =
-    (closed_elements g words p sort (byte ∷ bytes) from past (one ∷ []) closed.1, sym (some_same true lone (subst (λ n. cond (n == 0) None (Some true) ≡ Some lone) closed.0 is)))
-state_ends g words p sort (byte ∷ bytes) count from past (one ∷ two ∷ shapes) lone (inl wide) is =
-    absurd (none_some lone (subst (λ n. cond (n == 0) None (Some false) ≡ Some lone) wide.0 is))
-state_ends g words p sort (byte ∷ bytes) count from past (one ∷ two ∷ shapes) lone (inr closed) is =
-    (closed_elements g words p sort (byte ∷ bytes) from past (one ∷ two ∷ shapes) closed.1, sym (some_same false lone (subst (λ n. cond (n == 0) None (Some false) ≡ Some lone) closed.0 is)))
+state_ends g words p sort (byte ∷ bytes) count from past [] class (inr closed) is = absurd (nil_cons closed.1.first closed.1.rest closed.1.shapes_are)
+state_ends g words p sort (byte ∷ bytes) count from past (one ∷ []) class (inl wide) is =
+    absurd (none_some class (subst (λ n. cond (n == 0) None (list_of (held_of words (one ∷ []))) ≡ Some class) wide.0 is))
+state_ends g words p sort (byte ∷ bytes) count from past (one ∷ []) class (inr closed) is =
+    (closed_elements g words p sort (byte ∷ bytes) from past (one ∷ []) closed.1, subst (λ n. cond (n == 0) None (list_of (held_of words (one ∷ []))) ≡ Some class) closed.0 is)
+state_ends g words p sort (byte ∷ bytes) count from past (one ∷ two ∷ shapes) class (inl wide) is =
+    absurd (none_some class (subst (λ n. cond (n == 0) None (Some Other) ≡ Some class) wide.0 is))
+state_ends g words p sort (byte ∷ bytes) count from past (one ∷ two ∷ shapes) class (inr closed) is =
+    (closed_elements g words p sort (byte ∷ bytes) from past (one ∷ two ∷ shapes) closed.1, subst (λ n. cond (n == 0) None (Some Other) ≡ Some class) closed.0 is)
+
+one_not_none : ◌≡◌ {A = ℕ} 0 1 → ⊥
+one_not_none same = cc
+
+-- elements behind which another may come, where there is one
+some_behind : (g : Syntax) (words : List Word) (p sort : ℕ) (separator : List ℕ) (from past : ℕ) (shapes : List Shape) → State g words p sort separator 0 from past shapes
+    → is_nothing (held_of words shapes) ≡ false → IsBehind g words p sort separator from past shapes
+some_behind g words p sort separator from past shapes (inl (none, inl empty)) some =
+    absurd (true≢false (ap (λ vs. is_nothing (held_of words vs)) (sym empty.0) ∙ some))
+some_behind g words p sort separator from past shapes (inl (none, inr behind)) some = behind
+some_behind g words p sort separator from past shapes (inr closed) some = absurd (one_not_none closed.0)
 
 -- ---- the whole
 
-cond_some : (b : Bool) (x : Option Bool) (lone : Bool) → cond b x None ≡ Some lone → (b ≡ true) × (x ≡ Some lone)
-cond_some true x lone is = (refl, is)
-cond_some false x lone is = absurd (none_some lone is)
+cond_some : (b : Bool) (x : Option Class) (class : Class) → cond b x None ≡ Some class → (b ≡ true) × (x ≡ Some class)
+cond_some true x class is = (refl, is)
+cond_some false x class is = absurd (none_some class is)
 
 is_none_tells : (o : Option ℕ) → is_none o ≡ true → o ≡ None
 is_none_tells None is = refl
 is_none_tells (Some x) is = absurd (true≢false (sym is))
 
-class_of_tells : (shapes : List Shape) (lone : Bool) → class_of (held_of shapes) ≡ Some lone → (shape : Shape) × (shapes ≡ shape ∷ []) × (lone ≡ is_lone shape)
-class_of_tells [] lone is = absurd (none_some lone is)
-class_of_tells (shape ∷ []) lone is = (shape, refl, sym (some_same (is_lone shape) lone is))
-class_of_tells (one ∷ two ∷ shapes) lone is = absurd (none_some lone is)
+class_of_tells : (words : List Word) (shapes : List Shape) (class : Class) → class_of (held_of words shapes) ≡ Some class
+    → (shape : Shape) × (shapes ≡ shape ∷ []) × (class ≡ class_in words shape)
+class_of_tells words [] class is = absurd (none_some class is)
+class_of_tells words (shape ∷ []) class is = (shape, refl, sym (some_same (class_in words shape) class is))
+class_of_tells words (one ∷ two ∷ shapes) class is = absurd (none_some class is)
 
 lone_sort_tells : (items : List Part) → is_some (lone_sort items) ≡ true → (sort : ℕ) × (items ≡ Sort sort ∷ [])
 lone_sort_tells [] is = absurd (true≢false (sym is))
@@ -236,50 +251,82 @@ lone_sort_tells (Sort sort ∷ []) is = (sort, refl)
 lone_sort_tells (Terminal text ∷ second ∷ items) is = absurd (true≢false (sym is))
 lone_sort_tells (Sort sort ∷ second ∷ items) is = absurd (true≢false (sym is))
 
-module _ (g : Syntax) (words : List Word) (p : ℕ) (production : Production) (is_there : production_at g.prods p ≡ Some production) (from past : ℕ) (shapes : List Shape) (lone : Bool) where
+module _ (g : Syntax) (words : List Word) (p : ℕ) (production : Production) (is_there : production_at g.prods p ≡ Some production) (from past : ℕ) (shapes : List Shape) (class : Class) where
   plain_whole : IsPlain g.prods p production → (bracket : Bool) → production.attrs.bracket ≡ bracket → Parts g words p production (length production.items) from past shapes
-      → cond bracket (class_of (held_of shapes)) (Some false) ≡ Some lone → IsWholeRow g words from past p lone (cond bracket (codes_of shapes) (Open ∷ codes_of shapes ++ NodeSign p ∷ []))
+      → cond bracket (class_of (held_of words shapes)) (Some Other) ≡ Some class → IsWholeRow g words from past p class (cond bracket (codes_of shapes) (Open ∷ codes_of shapes ++ NodeSign p ∷ []))
   plain_whole plain true bracket parts is =
-      let one = class_of_tells shapes lone is in
+      let one = class_of_tells words shapes class is in
       record {
         shape = one.0;
         reads = reads_bracket p from past production one.0 plain bracket (subst (λ vs. Parts g words p production (length production.items) from past vs) one.1 parts);
-        lone_is = one.2;
+        class_is = one.2;
         code_is = ap codes_of one.1 ∙ codes_of-one one.0;
       }
   plain_whole plain false bracket parts is = record {
     shape = Node p shapes;
     reads = reads_plain p from past production shapes (Node p shapes) plain bracket parts refl;
-    lone_is = sym (some_same false lone is) ∙ sym (is_lone-Node p shapes);
+    class_is = sym (some_same Other class is) ∙ sym (class_in-Node words p shapes);
     code_is = sym (code_of-Node p shapes);
   }
 
   plain_ends : (count : ℕ) → is_list production.form ≡ false → is_none (step_from production) ≡ true → Goes g words p production count from past shapes
-      → plain_class production count (held_of shapes) ≡ Some lone → IsWholeRow g words from past p lone (plain_code p production (codes_of shapes))
+      → plain_class production count (held_of words shapes) ≡ Some class → IsWholeRow g words from past p class (plain_code p production (codes_of shapes))
   plain_ends count nl step goes is =
-      let all = cond_some (count == length production.items) (cond production.attrs.bracket (class_of (held_of shapes)) (Some false)) lone is in
+      let all = cond_some (count == length production.items) (cond production.attrs.bracket (class_of (held_of words shapes)) (Some Other)) class is in
       plain_whole (record { is = is_there; no_list = nl; no_step = is_none_tells (step_from production) step }) production.attrs.bracket refl
       (subst (λ n. Parts g words p production n from past shapes) (eqb-true count (length production.items) all.0) (goes_parts g words p production count from past shapes nl goes)) all.1
 
   list_ends : (count : ℕ) (separator : List ℕ) → production.form ≡ UserList separator → is_some (lone_sort production.items) ≡ true → Goes g words p production count from past shapes
-      → list_class separator count (held_of shapes) ≡ Some lone → IsWholeRow g words from past p lone (Open ∷ codes_of shapes ++ ItemsSign p ∷ [])
+      → list_class separator count (held_of words shapes) ≡ Some class → IsWholeRow g words from past p class (Open ∷ codes_of shapes ++ ItemsSign p ∷ [])
   list_ends count separator form some goes is =
       let one = lone_sort_tells production.items some in
-      let ends = state_ends g words p one.0 separator count from past shapes lone (goes_list g words p production one.0 separator form one.1 count from past shapes goes) is in
+      let ends = state_ends g words p one.0 separator count from past shapes class (goes_list g words p production one.0 separator form one.1 count from past shapes goes) is in
+      let tells = list_tells words p shapes class ends.1 in
       record {
         shape = Items p shapes None;
-        reads = reads_list p from past one.0 separator shapes (Items p shapes None) (record { production = production; is = is_there; form = form; element = one.1 }) ends.0 refl;
-        lone_is = ends.1 ∙ sym (is_lone-Items p shapes);
+        reads = reads_list p from past one.0 separator shapes (Items p shapes None) (record { production = production; is = is_there; form = form; element = one.1 }) ends.0 tells.0 refl;
+        class_is = tells.1;
         code_is = sym (code_of-Items p shapes None);
       }
 
   form_ends : (count : ℕ) (form : Form) → production.form ≡ form → is_read_by form production ≡ true → Goes g words p production count from past shapes
-      → class_by form production count (held_of shapes) ≡ Some lone → IsWholeRow g words from past p lone (code_by form p production (codes_of shapes))
+      → class_by form production count (held_of words shapes) ≡ Some class → IsWholeRow g words from past p class (code_by form p production (codes_of shapes))
   form_ends count Plain form read goes is = plain_ends count (ap is_list form) read goes is
   form_ends count (Prefix word) form read goes is = plain_ends count (ap is_list form) read goes is
   form_ends count (UserList separator) form read goes is = list_ends count separator form read goes is
 
   -- a production whose items were read is read
-  pub whole_ends : (count : ℕ) → is_read production ≡ true → Goes g words p production count from past shapes → whole_class production count (held_of shapes) ≡ Some lone
-      → IsWholeRow g words from past p lone (whole_code p production (codes_of shapes))
+  pub whole_ends : (count : ℕ) → is_read production ≡ true → Goes g words p production count from past shapes → whole_class production count (held_of words shapes) ≡ Some class
+      → IsWholeRow g words from past p class (whole_code p production (codes_of shapes))
   whole_ends count read goes is = form_ends count production.form refl read goes is
+
+is_read_list : (separator : List ℕ) (production : Production) → production.form ≡ UserList separator → is_read production ≡ true → is_some (lone_sort production.items) ≡ true
+is_read_list separator production form read = sym (ap (λ f. is_read_by f production) form) ∙ read
+
+module _ (g : Syntax) (words : List Word) (p : ℕ) (production : Production) (is_there : production_at g.prods p ≡ Some production) where
+  -- elements, the separator and a rest are read
+  pub rest_ends : (from at : ℕ) (shapes : List Shape) (separator : List ℕ) → production.form ≡ UserList separator → is_read production ≡ true
+      → Goes g words p production 0 from at shapes → is_nothing (held_of words shapes) ≡ false → IsWordAt words at Variable production.sort
+      → IsWholeRow g words from (at + 1) p Other (Open ∷ codes_of shapes ++ ItemsAnd p at ∷ [])
+  rest_ends from at shapes separator form read goes some word =
+      let one = lone_sort_tells production.items (is_read_list separator production form read) in
+      let b = some_behind g words p one.0 separator from at shapes (goes_list g words p production one.0 separator form one.1 0 from at shapes goes) some in
+      record {
+        shape = Items p (b.first ∷ b.rest) (Some at);
+        reads = reads_rest p from b.at at one.0 separator b.first b.rest (Items p (b.first ∷ b.rest) (Some at)) (record { production = production; is = is_there; form = form; element = one.1 })
+            b.elements b.between word refl;
+        class_is = sym (class_in-rest words p (b.first ∷ b.rest) at);
+        code_is = ap (λ vs. Open ∷ codes_of vs ++ ItemsAnd p at ∷ []) b.shapes_are ∙ sym (code_of-Items p (b.first ∷ b.rest) (Some at));
+      }
+
+  -- a token that is the empty list is read
+  pub empty_list_row : (at : ℕ) (separator : List ℕ) → production.form ≡ UserList separator → is_read production ≡ true → IsWordAt words at EmptyList production.sort
+      → IsWholeRow g words at (at + 1) p Other (Open ∷ ItemsSign p ∷ [])
+  empty_list_row at separator form read word =
+      let one = lone_sort_tells production.items (is_read_list separator production form read) in
+      record {
+        shape = Items p [] None;
+        reads = reads_empty p at one.0 separator (Items p [] None) (record { production = production; is = is_there; form = form; element = one.1 }) word refl;
+        class_is = sym (class_in-nothing words p);
+        code_is = sym (code_of-Items p [] None);
+      }

@@ -1,11 +1,9 @@
-pub mod Adding
 pub mod Coding
 pub mod Columns
 pub mod Completing
 pub mod Finishing
 pub mod ReadingBack
 pub mod Saturating
-pub mod Seeding
 pub mod Sounding
 pub mod Spanning
 pub mod Telling

@@ -3,7 +3,7 @@ use Rattle.std.proofs.Common.{ℕ, ◌+◌, ◌<◌, ◌≤◌, ◌≡◌, List,
 use Rattle.std.proofs.lemmas.List.{drop_all}
 use Rattle.grammar_terms.specs.declared.shape.Shape.{Shape}
 use Rattle.span_table.specs.declared.codes.Parts.{Parts}
-use Rattle.span_table.specs.declared.sign.Sign.{Sign}
+use Rattle.span_rows.specs.declared.sign.Sign.{Sign}
 use Rattle.span_table.specs.Codes.{read_back, IsCode}
 use Rattle.span_table.specs.ReadBack.{from_parts, IsReadOn}
 use Rattle.span_table.proofs.Coding.{read_back_code}

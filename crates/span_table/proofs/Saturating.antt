@@ -3,11 +3,11 @@ use Rattle.std.proofs.Common.{ℕ, ◌≡◌, List, [], sym, subst}
 use Rattle.grammar_terms.specs.declared.word.Word.{Word}
 use Rattle.grammar_terms.specs.Cuts.{Has}
 use Rattle.grammar_terms.specs.Grammar.{Syntax}
-use Rattle.span_table.specs.declared.row.Row.{Row}
-use Rattle.span_table.specs.Rows.{Kept, Adds, IsNear, IsSeed}
+use Rattle.span_rows.specs.declared.row.Row.{Row}
+use Rattle.span_rows.specs.Rows.{Kept, Adds, IsNear, IsSeed}
 use Rattle.span_table.specs.Meaning.{AreSound}
 use Rattle.span_table.specs.Table.{IsSaturated, KeepsSound, KeepsSoundAlone}
-use Rattle.span_table.proofs.Adding.{adds_through, grown}
+use Rattle.span_rows.proofs.Adding.{adds_through, grown}
 use Rattle.span_table.proofs.Sounding.{adds_sound, says_near, says_seed}
 
 -- nothing was new

@@ -1,17 +1,15 @@
 -- The rows of a span, from those of shorter spans.
-use Rattle.std.proofs.Common.{ℕ, ◌+◌, ◌-◌, ◌<◌, ◌≤◌, ◌≡◌, inl, inr, List, [], ◌∷◌, get_or, sym, ap, subst, arith}
+use Rattle.std.proofs.Common.{ℕ, ◌+◌, ◌-◌, ◌<◌, ◌≤◌, ◌≡◌, inl, inr, List, [], get_or, sym, subst, arith}
 use Rattle.std.proofs.Math.Nat.{eq-or-lt_of_le}
 use Rattle.grammar_terms.specs.declared.word.Word.{Word}
 use Rattle.grammar_terms.specs.Grammar.{Syntax}
-use Rattle.grammar_terms.specs.Reading.{IsLeafAt}
-use Rattle.span_table.specs.declared.row.Key.TheVariants.{Token}
-use Rattle.span_table.specs.declared.row.Row.{Row}
-use Rattle.span_table.specs.declared.sign.Sign.TheVariants.{Leaf as LeafSign}
-use Rattle.span_table.specs.Rows.{row, Adds, IsMade, IsJoin, Passes}
+use Rattle.span_rows.specs.declared.row.Row.{Row}
+use Rattle.span_rows.specs.Rows.{Adds, IsMade, IsJoin, GoesOn}
 use Rattle.span_table.specs.Meaning.{Says, AreSound}
-use Rattle.span_table.specs.Table.{IsTokenOver, IsMiddle, IsFull, IsSaturated, KeepsSound, IsSoundUpTo, IsSoundColumn, rows_of}
-use Rattle.span_table.proofs.Adding.{adds_none, adds_both, adds_as, grown}
-use Rattle.span_table.proofs.Sounding.{says_row, says_passed, says_joined, adds_sound}
+use Rattle.span_rows.specs.Tokens.{IsTokenOver}
+use Rattle.span_table.specs.Table.{IsMiddle, IsFull, IsSaturated, KeepsSound, IsSoundUpTo, IsSoundColumn, rows_of}
+use Rattle.span_rows.proofs.Adding.{adds_none, adds_both, adds_as, grown}
+use Rattle.span_table.proofs.Sounding.{says_token, says_gone, says_joined, adds_sound}
 
 -- ---- two parts of a span
 
@@ -49,7 +47,7 @@ middles_all g empty columns column from last bound before after past added =
 -- ---- all of it
 
 pub full_of : (g : Syntax) (words : List Word) (empty : List Row) (columns : List (List (List Row))) (column : List (List Row)) (from last : ℕ) (one two three rows : List Row)
-    → Adds (IsTokenOver words from last) [] one → Adds (IsMade (Passes g words last) (rows_of empty columns from last)) one two
+    → Adds (IsTokenOver g words from last) [] one → Adds (IsMade (GoesOn g words last) (rows_of empty columns from last)) one two
     → Adds (IsMiddle g empty columns column from last) two three → IsSaturated g empty three rows → IsFull g words empty columns column from last rows
 full_of g words empty columns column from last one two three rows tokens passed middles saturated = record {
   far = λ x far. elim far [
@@ -62,23 +60,18 @@ full_of g words empty columns column from last one two three rows tokens passed 
   near = saturated.covers;
 }
 
-says_token : (g : Syntax) (words : List Word) (from last : ℕ) (made : Row) → IsTokenOver words from last made → Says g words from (last + 1) made.key made.code
-says_token g words from last made over =
-    says_row g words from (last + 1) made (row (Token over.1.own) (LeafSign last ∷ [])) over.1.is (record {
-      leaf = subst (λ at. IsLeafAt words at over.1.own) (sym over.0) over.1.leaf;
-      past_is = ap (λ at. at + 1) (sym over.0);
-      code_is = ap (λ at. LeafSign at ∷ []) (sym over.0);
-    })
+says_over : (g : Syntax) (words : List Word) (from last : ℕ) (made : Row) → IsTokenOver g words from last made → Says g words from (last + 1) made.key made.code
+says_over g words from last made over = subst (λ at. Says g words at (last + 1) made.key made.code) (sym over.0) (says_token g words last made over.1)
 
 pub sound_of : (g : Syntax) (words : List Word) (empty : List Row) (columns : List (List (List Row))) (column : List (List Row)) (from last : ℕ) (one two three rows : List Row)
-    → from ≤ last → Adds (IsTokenOver words from last) [] one → Adds (IsMade (Passes g words last) (rows_of empty columns from last)) one two
+    → from ≤ last → Adds (IsTokenOver g words from last) [] one → Adds (IsMade (GoesOn g words last) (rows_of empty columns from last)) one two
     → Adds (IsMiddle g empty columns column from last) two three → KeepsSound g empty three rows
     → IsSoundUpTo g words empty columns last → IsSoundColumn g words last column (last - from) → AreSound g words from (last + 1) rows
 sound_of g words empty columns column from last one two three rows within tokens passed middles keeps up beside =
-    let first = adds_sound g words from (last + 1) (IsTokenOver words from last) [] one tokens (λ x none. absurd none) (λ x over. says_token g words from last x over) in
+    let first = adds_sound g words from (last + 1) (IsTokenOver g words from last) [] one tokens (λ x none. absurd none) (λ x over. says_over g words from last x over) in
     let second =
-    adds_sound g words from (last + 1) (IsMade (Passes g words last) (rows_of empty columns from last)) one two passed first
-    (λ x made. says_passed g words from last made.front x (up.before from last (omega arith) made.front made.has_front) made.makes) in
+    adds_sound g words from (last + 1) (IsMade (GoesOn g words last) (rows_of empty columns from last)) one two passed first
+    (λ x made. says_gone g words from last made.front x (up.before from last (omega arith) made.front made.has_front) made.makes) in
     let third =
     adds_sound g words from (last + 1) (IsMiddle g empty columns column from last) two three middles second
     (λ x m.

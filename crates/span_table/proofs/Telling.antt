@@ -8,14 +8,14 @@ use Rattle.grammar_terms.specs.declared.word.Word.{Word}
 use Rattle.grammar_terms.specs.Cuts.{Has, Tells}
 use Rattle.grammar_terms.specs.Grammar.{Syntax}
 use Rattle.grammar_terms.specs.Reading.{IsReading}
-use Rattle.span_table.specs.declared.row.Row.{Row}
-use Rattle.span_table.specs.declared.sign.Sign.{Sign}
+use Rattle.span_rows.specs.declared.row.Row.{Row}
+use Rattle.span_rows.specs.declared.sign.Sign.{Sign}
 use Rattle.span_table.specs.Codes.{code_of, IsCode}
-use Rattle.span_table.specs.Rows.{row, Stands}
+use Rattle.span_rows.specs.Rows.{row, Stands}
 use Rattle.span_table.specs.Meaning.{AreSound}
 use Rattle.span_table.specs.Table.{IsFullTable}
 use Rattle.span_table.specs.Choices.{IsFirst, IsOther, IsShown, TellsOf}
-use Rattle.span_table.proofs.Adding.{has_more}
+use Rattle.span_rows.proofs.Adding.{has_more}
 use Rattle.span_table.proofs.Coding.{code_tells}
 use Rattle.span_table.proofs.Completing.{child_kept}
 use Rattle.span_table.proofs.Sounding.{child_of}

@@ -5,10 +5,10 @@ use Rattle.grammar_terms.specs.declared.shape.Readings.{Readings}
 use Rattle.grammar_terms.specs.declared.shape.Readings.TheVariants.{Zero, One, Two}
 use Rattle.grammar_terms.specs.Cuts.{Has}
 use Rattle.grammar_terms.specs.Grammar.{Syntax}
-use Rattle.span_table.specs.declared.row.Row.{Row}
-use Rattle.span_table.specs.declared.sign.Sign.{Sign}
+use Rattle.span_rows.specs.declared.row.Row.{Row}
+use Rattle.span_rows.specs.declared.sign.Sign.{Sign}
 use Rattle.span_table.specs.Codes.{code_of}
-use Rattle.span_table.specs.Rows.{Stands}
+use Rattle.span_rows.specs.Rows.{Stands}
 
 -- a row that may stand at a sort, or that there is none
 abbrev pub IsFirst : Syntax → ℕ → List Row → Option Row → Type 0

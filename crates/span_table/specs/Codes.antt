@@ -1,8 +1,8 @@
 -- The code of a shape.
 use Rattle.std.specs.Prelude.{◌≡◌, ℕ, List, [], ◌∷◌, ◌++◌, Option, Some, None}
 use Rattle.grammar_terms.specs.declared.shape.Shape.{Shape, Leaf, Node, Items, Node' as NodeS', Items' as ItemsS', Row_of-Shape, end_of-Shape, more_of-Shape}
-use Rattle.span_table.specs.declared.sign.Sign.{Sign}
-use Rattle.span_table.specs.declared.sign.Sign.TheVariants.{Open, Leaf as LeafSign, Node as NodeSign, Items as ItemsSign, ItemsAnd}
+use Rattle.span_rows.specs.declared.sign.Sign.{Sign}
+use Rattle.span_rows.specs.declared.sign.Sign.TheVariants.{Open, Leaf as LeafSign, Node as NodeSign, Items as ItemsSign, ItemsAnd}
 
 -- the sign behind the elements of a list
 abbrev pub items_sign : ℕ → Option ℕ → Sign

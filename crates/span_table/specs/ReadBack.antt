@@ -2,7 +2,7 @@
 use Rattle.std.specs.Prelude.{◌≡◌, List, [], ◌∷◌, ◌++◌, Option, Some, None, reverse}
 use Rattle.grammar_terms.specs.declared.shape.Shape.{Shape}
 use Rattle.span_table.specs.declared.codes.Parts.{Parts}
-use Rattle.span_table.specs.declared.sign.Sign.{Sign}
+use Rattle.span_rows.specs.declared.sign.Sign.{Sign}
 use Rattle.span_table.specs.Codes.{read_back}
 
 -- what is read back of signs behind some parts

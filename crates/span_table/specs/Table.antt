@@ -1,28 +1,20 @@
 -- The table of spans.
-use Rattle.std.specs.Prelude.{◌≡◌, ◌⊎◌, ℕ, ◌+◌, ◌-◌, ◌<◌, ◌≤◌, ◌==◌, nat_lt, cond, List, [], ◌∷◌, length, get_or, take}
+use Rattle.std.specs.Prelude.{◌≡◌, ◌⊎◌, ℕ, ◌+◌, ◌-◌, ◌<◌, ◌≤◌, ◌==◌, nat_lt, cond, List, [], length, get_or, take}
 use Rattle.grammar_terms.specs.declared.word.Word.{Word}
 use Rattle.grammar_terms.specs.Cuts.{Has}
 use Rattle.grammar_terms.specs.Grammar.{Syntax}
-use Rattle.grammar_terms.specs.Reading.{IsLeafAt}
-use Rattle.span_table.specs.declared.row.Key.TheVariants.{Token}
-use Rattle.span_table.specs.declared.row.Row.{Row}
-use Rattle.span_table.specs.declared.sign.Sign.TheVariants.{Leaf as LeafSign}
-use Rattle.span_table.specs.Rows.{row, Kept, IsSeed, Passes, Finishes, Extends, IsMade, IsJoin, IsNear}
+use Rattle.span_rows.specs.declared.row.Row.{Row}
+use Rattle.span_rows.specs.Rows.{Kept, IsSeed, GoesOn, Finishes, Grows, IsMade, IsJoin, IsNear}
+use Rattle.span_rows.specs.Tokens.{IsToken, IsTokenOver}
 use Rattle.span_table.specs.Meaning.{AreSound}
-
--- the token at a place is a reading of its own sort
-pub record IsToken (words : List Word) (at : ℕ) (made : Row) : Type 0 where
-  pub own : ℕ
-  pub leaf : IsLeafAt words at own
-  pub is : made ≡ row (Token own) (LeafSign at ∷ [])
 
 -- Rows of each span of a text, by the places of its first token and behind its last, such that what they make is kept.
 pub record IsFullTable (g : Syntax) (words : List Word) (rows : ℕ → ℕ → List Row) : Type 0 where
   pub seeds : (at : ℕ) (made : Row) → IsSeed g made → Kept (rows at at) made
-  pub tokens : (at : ℕ) (made : Row) → IsToken words at made → Kept (rows at (at + 1)) made
-  pub passed : (from at : ℕ) (front made : Row) → Has (rows from at) front → Passes g words at front made → Kept (rows from (at + 1)) made
+  pub tokens : (at : ℕ) (made : Row) → IsToken g words at made → Kept (rows at (at + 1)) made
+  pub passed : (from at : ℕ) (front made : Row) → Has (rows from at) front → GoesOn g words at front made → Kept (rows from (at + 1)) made
   pub finished : (from past : ℕ) (front made : Row) → Has (rows from past) front → Finishes g front made → Kept (rows from past) made
-  pub extended : (from at past : ℕ) (front child made : Row) → Has (rows from at) front → Has (rows at past) child → Extends g front child made → Kept (rows from past) made
+  pub extended : (from at past : ℕ) (front child made : Row) → Has (rows from at) front → Has (rows at past) child → Grows g front child made → Kept (rows from past) made
 
 -- what rows of a span make in it is kept in it
 pub record IsSaturated (g : Syntax) (empty before after : List Row) : Type 0 where
@@ -42,10 +34,6 @@ KeepsSoundAlone g before after = (words : List Word) (at : ℕ) → AreSound g w
 abbrev pub rows_of : List Row → List (List (List Row)) → ℕ → ℕ → List Row
 rows_of empty columns from past = cond (from == past) empty (cond (nat_lt from past) (get_or (get_or columns (past - 1) []) (past - 1 - from) []) [])
 
--- a span is a token that is a reading of its own sort
-abbrev pub IsTokenOver : List Word → ℕ → ℕ → Row → Type 0
-IsTokenOver words from last made = (from ≡ last) × IsToken words last made
-
 -- a span in two parts, whose rows make this one
 pub record IsMiddle (g : Syntax) (empty : List Row) (columns : List (List (List Row))) (column : List (List Row)) (from last : ℕ) (made : Row) : Type 0 where
   pub middle : ℕ
@@ -56,8 +44,8 @@ pub record IsMiddle (g : Syntax) (empty : List Row) (columns : List (List (List 
 -- What shorter spans, and the last token, make in a span. The column has those that end with it.
 abbrev pub IsFar : Syntax → List Word → List Row → List (List (List Row)) → List (List Row) → ℕ → ℕ → Row → Type 0
 IsFar g words empty columns column from last made =
-    IsTokenOver words from last made
-    ⊎ (IsMade (Passes g words last) (rows_of empty columns from last) made ⊎ IsMiddle g empty columns column from last made)
+    IsTokenOver g words from last made
+    ⊎ (IsMade (GoesOn g words last) (rows_of empty columns from last) made ⊎ IsMiddle g empty columns column from last made)
 
 -- the rows of a span keep what shorter spans make in it, and what they make themselves
 pub record IsFull (g : Syntax) (words : List Word) (empty : List Row) (columns : List (List (List Row))) (column : List (List Row)) (from last : ℕ) (rows : List Row) : Type 0 where

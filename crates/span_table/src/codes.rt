@@ -3,9 +3,9 @@ ghost use Rattle.std.specs.Prelude.{◌≡◌, IfOk};
 ghost use Rattle.span_table.specs.Codes.{code_of, IsCode};
 ghost use Rattle.span_table.specs.ReadBack.{IsReadOn, IsEnded};
 
-use crate::sign::Sign;
 use grammar_terms::Shape;
 use k_terms::{Many, Memory};
+use span_rows::Sign;
 use std::alloc::Global;
 
 /// The shapes that were read back: the parts of what is open, and of what is around it, the outermost first.

@@ -2,19 +2,17 @@
 ghost use Rattle.std.specs.Prelude.{◌≡◌, ◌↔◌, None, IfOk, IsTrue, IsFalse, option_copied};
 ghost use Rattle.grammar_terms.specs.Cuts.{Has, Tells};
 ghost use Rattle.grammar_terms.specs.Reading.{IsReading};
-ghost use Rattle.span_table.specs.declared.row.Row.{Row as RowOf};
+ghost use Rattle.span_rows.specs.declared.row.Row.{Row as RowOf};
 ghost use Rattle.span_table.specs.Codes.{IsCode};
-ghost use Rattle.span_table.specs.Rows.{Stands};
+ghost use Rattle.span_rows.specs.Rows.{Stands};
 ghost use Rattle.span_table.specs.Choices.{IsFirst, IsOther, TellsOf};
 
 use crate::codes::shape_of;
-use crate::joins::stands;
 use crate::passes::empty_rows;
-use crate::row::{Key, Row};
-use crate::sign::{Sign, same_code};
 use crate::table::{columns_of, rows_of};
 use grammar_terms::{Grammar, Readings, Word};
 use k_terms::Memory;
+use span_rows::{Key, Row, Sign, same_code, stands};
 use std::alloc::Global;
 
 /// Whether what a row says may stand at a sort, with nothing around it.

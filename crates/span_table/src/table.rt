@@ -1,17 +1,13 @@
 //! The table of spans.
 ghost use Rattle.std.specs.Prelude.{◌≡◌, ℕ, ◌+◌, ◌-◌, ◌^◌, ◌<◌, ◌≤◌, [], IfOk, get_or, length};
-ghost use Rattle.grammar_terms.specs.Reading.{is_leaf as leaf_kind};
-ghost use Rattle.span_table.specs.Rows.{Adds};
+ghost use Rattle.span_rows.specs.Rows.{Adds};
 ghost use Rattle.span_table.specs.Meaning.{AreSound};
-ghost use Rattle.span_table.specs.Table.{rows_of as rows_by, IsTokenOver, IsMiddle, IsFull, IsSoundUpTo, IsSoundColumn, IsFullColumn, AreFullColumns, IsEmptySpan, IsFullTable};
+ghost use Rattle.span_table.specs.Table.{rows_of as rows_by, IsMiddle, IsFull, IsSoundUpTo, IsSoundColumn, IsFullColumn, AreFullColumns, IsEmptySpan, IsFullTable};
 
-use crate::joins::join;
-use crate::passes::{empty_rows, pass_all, saturate};
-use crate::row::{Key, Row};
-use crate::rows::add;
-use crate::sign::Sign;
-use grammar_terms::{Grammar, Word, WordKind};
+use crate::passes::saturate;
+use grammar_terms::{Grammar, Word};
 use k_terms::{Many, Memory};
+use span_rows::{Row, add_token, go_on_all, join};
 use std::alloc::Global;
 
 /// The rows of a span.
@@ -65,44 +61,6 @@ pub(crate) fn rows_of<'a>(
     rows_in(column_in(columns, past - 1), past - 1 - from)
 }
 
-/// A token that is a reading of its own sort.
-fn is_leaf(kind: &WordKind) -> bool
-    ensures { result ≡ leaf_kind kind.now }
-{
-    match kind {
-        WordKind::Terminal(_) => false,
-        WordKind::Literal(_) => true,
-        WordKind::Variable => true,
-        WordKind::Wild => false,
-        WordKind::EmptyList => false,
-    }
-}
-
-/// Adds the row of the last token of a span, where that is the only one and a reading of its own sort.
-fn add_token(
-    alloc: Global,
-    tokens: &[Word],
-    from: usize,
-    last: usize,
-    rows: &mut Vec<Row>,
-) -> Result<(), Memory>
-    ensures { IfOk result (λ _. Adds (IsTokenOver tokens.now from last) rows.old.items rows.new.items) }
-{
-    if from != last {
-        return Ok(());
-    }
-    let Some(token) = tokens.get(last) else {
-        return Ok(());
-    };
-    if !is_leaf(&token.kind) {
-        return Ok(());
-    }
-    let key = Key::Token(token.sort);
-    let code = Many::from_vec(Vec::from_slice(alloc, &[Sign::Leaf(last)])?);
-    add(rows, Row { key, code })?;
-    Ok(())
-}
-
 /// Adds the rows that a span has from two parts of it.
 fn join_middles(
     alloc: Global,
@@ -141,9 +99,9 @@ fn fill(
         → AreSound grammar.now tokens.now from (last + 1) rows) }
 {
     let mut rows = Vec::new(alloc);
-    add_token(alloc, tokens, from, last, &mut rows)?;
+    add_token(alloc, grammar, tokens, from, last, &mut rows)?;
     let fronts = rows_of(spans.empty, spans.columns, from, last);
-    pass_all(alloc, grammar, tokens, last, fronts, &mut rows)?;
+    go_on_all(alloc, grammar, tokens, last, fronts, &mut rows)?;
     join_middles(alloc, grammar, spans, from, last, &mut rows)?;
     saturate(alloc, grammar, spans.empty, &mut rows)?;
     Ok(Many::from_vec(rows))

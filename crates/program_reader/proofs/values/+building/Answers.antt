@@ -1,6 +1,6 @@
 use Rattle.std.proofs.Common.{◌≡◌, ◌∷◌, ◌++◌, [], IfOk, sym, ap, ◌∙◌, subst}
-use Rattle.k_terms.specs.declared.value.Value.{Node as NodeV, Items as ItemsV}
-use Rattle.grammar_terms.specs.Values.{at_sort, value_of, values_by, elements_by, first_or_item}
+use Rattle.k_terms.specs.declared.value.Value.{Node as NodeV}
+use Rattle.grammar_terms.specs.Values.{at_sort, list_value, value_of, values_by, elements_by, first_or_item}
 use Rattle.grammar_terms.proofs.ShapeValues.{value-Node, value-Items}
 use Rattle.program_reader.proofs.Valuing.{value-Leaf, values_more, no_values, first_is}
 use Rattle.program_reader.proofs.values.+building.Goals as goal
@@ -24,15 +24,15 @@ value-returns-in_ok-values-in-Node t c =
 
 pub value-returns-in_ok-values-in-Items : goal.value-returns-in_ok-values-in-Items
 value-returns-in_ok-values-in-Items t c =
-    subst (λ v. IfOk c.at_sort-in-Items.result (λ it. it ≡ v))
-    (ap (λ vs. at_sort c.args.sort (ItemsV c.in-Items.prod vs))
+    subst (λ v. IfOk c.list_value.result (λ it. it ≡ v))
+    (ap (list_value c.args.sort c.in-Items.prod)
     (c.in_ok-values-in-Items.ensures
     ∙ (λ i. elements_by c.args.grammar.now.prods c.args.words.now
     ((c.sort_at-element.ensures ∙ first_is c.deref-in-Items.result.now ∙ ap first_or_item (c.deref-in-Items.ensures.value ∙ c.in_ok-sorts-in-Items.ensures)) i)
     (c.as_slice-in-Items.ensures i)))
     ∙ sym (ap (value_of c.args.grammar.now.prods c.args.words.now c.args.sort) c.in-Items.is
     ∙ value-Items c.args.grammar.now.prods c.args.words.now c.args.sort c.in-Items.prod c.in-Items.shapes c.in-Items.field-2))
-    c.at_sort-in-Items.ensures
+    c.list_value.ensures
 
 pub values-loop-index-init : goal.values-loop-index-init
 values-loop-index-init t c = c.in_ok-values.ensures.items ∙ no_values c.args.grammar.now.prods c.args.words.now c.args.sorts.now

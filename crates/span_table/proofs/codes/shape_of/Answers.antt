@@ -1,5 +1,5 @@
 use Rattle.std.proofs.Common.{◌≡◌, ◌<◌, length, vec_len, true≢false, arith, [], ◌∷◌, sym, ap, subst, ◌∙◌}
-use Rattle.span_table.specs.declared.sign.Sign.TheVariants.{Open}
+use Rattle.span_rows.specs.declared.sign.Sign.TheVariants.{Open}
 use Rattle.span_table.specs.Codes.{code_of}
 use Rattle.span_table.specs.ReadBack.{IsReadOn}
 use Rattle.span_table.proofs.ReadingBack.{code_goes_on, code_ends, last_of_one}

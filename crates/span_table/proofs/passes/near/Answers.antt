@@ -1,6 +1,6 @@
 use Rattle.std.proofs.Common.{◌⊎◌, inl, inr, subst}
-use Rattle.span_table.specs.Rows.{Adds, IsMade, IsJoin, IsNear, Finishes}
-use Rattle.span_table.proofs.Adding.{adds_both}
+use Rattle.span_rows.specs.Rows.{Adds, IsMade, IsJoin, IsNear, Finishes}
+use Rattle.span_rows.proofs.Adding.{adds_both}
 use Rattle.span_table.proofs.passes.near.Goals as goal
 
 pub returns : goal.returns

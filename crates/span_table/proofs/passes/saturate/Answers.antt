@@ -1,6 +1,6 @@
 use Rattle.std.proofs.Common.{List, [], subst}
-use Rattle.span_table.specs.declared.row.Row.{Row}
-use Rattle.span_table.specs.Rows.{Adds, IsNear}
+use Rattle.span_rows.specs.declared.row.Row.{Row}
+use Rattle.span_rows.specs.Rows.{Adds, IsNear}
 use Rattle.span_table.proofs.Saturating.{saturated, near_sound}
 use Rattle.span_table.proofs.passes.saturate.Goals as goal
 

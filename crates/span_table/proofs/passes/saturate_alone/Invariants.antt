@@ -1,6 +1,6 @@
 use Rattle.std.proofs.Common.{◌-◌, ◌^◌, length}
 use Rattle.grammar_terms.specs.Cuts.{Has}
-use Rattle.span_table.specs.declared.row.Row.{Row}
+use Rattle.span_rows.specs.declared.row.Row.{Row}
 use Rattle.span_table.specs.Table.{KeepsSoundAlone}
 use Rattle.span_table.proofs.passes.saturate_alone.Given as goal
 

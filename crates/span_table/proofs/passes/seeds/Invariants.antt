@@ -1,10 +1,10 @@
 use Rattle.std.proofs.Common.{◌≡◌, []}
-use Rattle.span_table.specs.Rows.{Adds}
-use Rattle.span_table.proofs.Seeding.{SeedUpTo}
+use Rattle.span_rows.specs.Rows.{Adds, IsSeedOf}
+use Rattle.span_rows.proofs.Seeding.{UpTo}
 use Rattle.span_table.proofs.passes.seeds.Given as goal
 
 abbrev pub invariant-loop-production : goal.invariant-loop-production
 invariant-loop-production l = record {
   number : l.prod ≡ l.production-index;
-  added : Adds (SeedUpTo l.grammar l.production-index) [] l.rows.items;
+  added : Adds (UpTo l.grammar IsSeedOf l.production-index) [] l.rows.items;
 }

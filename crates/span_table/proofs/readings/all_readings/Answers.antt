@@ -1,9 +1,9 @@
 use Rattle.std.proofs.Common.{◌≡◌, ◌∙◌, List, length, None, sym, subst}
 use Rattle.grammar_terms.specs.Cuts.{Has, Tells}
 use Rattle.grammar_terms.specs.Reading.{IsReading}
-use Rattle.span_table.specs.declared.row.Row.{Row}
+use Rattle.span_rows.specs.declared.row.Row.{Row}
 use Rattle.span_table.specs.Codes.{IsCode}
-use Rattle.span_table.specs.Rows.{Stands}
+use Rattle.span_rows.specs.Rows.{Stands}
 use Rattle.span_table.specs.Table.{rows_of}
 use Rattle.span_table.specs.Choices.{TellsOf}
 use Rattle.span_table.proofs.Telling.{are_codes, readings_tell, told_ok}

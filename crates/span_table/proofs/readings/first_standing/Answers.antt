@@ -1,5 +1,5 @@
 use Rattle.std.proofs.Common.{◌∙◌, sym, true≢false}
-use Rattle.span_table.proofs.Adding.{has_item}
+use Rattle.span_rows.proofs.Adding.{has_item}
 use Rattle.span_table.proofs.Telling.{first_next}
 use Rattle.span_table.proofs.readings.first_standing.Goals as goal
 

@@ -1,4 +1,4 @@
-use Rattle.span_table.proofs.Adding.{has_item}
+use Rattle.span_rows.proofs.Adding.{has_item}
 use Rattle.span_table.proofs.Telling.{other_next}
 use Rattle.span_table.proofs.readings.other_standing.Goals as goal
 

@@ -1,5 +1,5 @@
 use Rattle.std.proofs.Common.{◌≡◌, List, ◌+◌, ◌-◌, arith, sym, subst}
-use Rattle.span_table.specs.declared.row.Row.{Row}
+use Rattle.span_rows.specs.declared.row.Row.{Row}
 use Rattle.span_table.specs.Table.{IsFull, IsSoundColumn, IsFullColumn}
 use Rattle.span_table.proofs.Columns.{column_next, sound_next}
 use Rattle.span_table.proofs.table.column_of.Goals as goal

@@ -1,5 +1,5 @@
 use Rattle.std.proofs.Common.{◌≡◌, List, ◌+◌, length, arith, sym, subst}
-use Rattle.span_table.specs.declared.row.Row.{Row}
+use Rattle.span_rows.specs.declared.row.Row.{Row}
 use Rattle.span_table.specs.Table.{IsSoundUpTo, IsFullColumn, AreFullColumns}
 use Rattle.span_table.proofs.Columns.{columns_next, sound_more, table_full}
 use Rattle.span_table.proofs.table.columns_of.Goals as goal

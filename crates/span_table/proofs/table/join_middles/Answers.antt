@@ -1,6 +1,6 @@
 use Rattle.std.proofs.Common.{List, ◌<◌, ◌≤◌, arith, subst}
-use Rattle.span_table.specs.declared.row.Row.{Row}
-use Rattle.span_table.specs.Rows.{Adds, IsJoin}
+use Rattle.span_rows.specs.declared.row.Row.{Row}
+use Rattle.span_rows.specs.Rows.{Adds, IsJoin}
 use Rattle.span_table.specs.Table.{rows_of}
 use Rattle.span_table.proofs.Spanning.{middles_next, middles_all}
 use Rattle.span_table.proofs.table.join_middles.Goals as goal

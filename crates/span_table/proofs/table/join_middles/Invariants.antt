@@ -1,4 +1,4 @@
-use Rattle.span_table.specs.Rows.{Adds}
+use Rattle.span_rows.specs.Rows.{Adds}
 use Rattle.span_table.proofs.Spanning.{MiddleUpTo}
 use Rattle.span_table.proofs.table.join_middles.Given as goal
 

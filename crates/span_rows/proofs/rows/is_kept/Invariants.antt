@@ -1,0 +1,4 @@
+use Rattle.span_rows.proofs.rows.is_kept.Given as goal
+
+abbrev pub invariant-loop-row : goal.invariant-loop-row
+invariant-loop-row l = Unit {0}

@@ -1,6 +1,0 @@
-use Rattle.std.proofs.Common.{take}
-use Rattle.span_table.specs.Rows.{Adds, Extends, IsMade}
-use Rattle.span_table.proofs.joins.join.Given as goal
-
-abbrev pub invariant-loop-front : goal.invariant-loop-front
-invariant-loop-front l = Adds (IsMade (λ front. IsMade (Extends l.grammar front) l.children) (take l.front-index l.fronts)) l.initial.rows.items l.rows.items

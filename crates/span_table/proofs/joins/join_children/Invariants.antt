@@ -1,6 +1,0 @@
-use Rattle.std.proofs.Common.{take}
-use Rattle.span_table.specs.Rows.{Adds, Extends, IsMade}
-use Rattle.span_table.proofs.joins.join_children.Given as goal
-
-abbrev pub invariant-loop-child : goal.invariant-loop-child
-invariant-loop-child l = Adds (IsMade (Extends l.grammar l.front) (take l.child-index l.children)) l.initial.rows.items l.rows.items

@@ -1,7 +1,0 @@
-use Rattle.std.proofs.Common.{◌≡◌, sym, subst}
-use Rattle.span_table.specs.Rows.{Adds}
-use Rattle.span_table.proofs.Adding.{adds_one}
-use Rattle.span_table.proofs.rows.add.Goals as goal
-
-pub returns-clause-ok : goal.returns-clause-ok
-returns-clause-ok c = subst (Adds (λ row. row ≡ c.args.made) c.args.rows.now.items) (sym c.in_ok-push.ensures.items) (adds_one c.args.rows.now.items c.args.made)

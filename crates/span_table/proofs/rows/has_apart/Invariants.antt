@@ -1,4 +1,0 @@
-use Rattle.span_table.proofs.rows.has_apart.Given as goal
-
-abbrev pub invariant-loop-row : goal.invariant-loop-row
-invariant-loop-row l = Unit {0}

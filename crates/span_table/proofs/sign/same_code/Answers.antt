@@ -1,6 +1,0 @@
-use Rattle.std.proofs.Common.{rules}
-use Rattle.std.proofs.lemmas.Slice.Eq.{slice_eq-Decides}
-use Rattle.span_table.proofs.sign.same_code.Goals as goal
-
-pub returns : goal.returns
-returns c = slice_eq-Decides (λ a b. (λ same. search rules, λ same. search rules)) _ _ _ c.eq.ensures
