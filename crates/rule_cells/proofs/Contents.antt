@@ -156,12 +156,15 @@ module _ (cells : List CellShape) (around : Around) (before : Side) (cell : ℕ)
 
   content_closed : (d : Dots) (content : List Mark) → IsFront cells (Within around before cell d content) → (state : State)
       → record {
-          level = with_item (level_in around before) (item.Cell (record {
-            cell = cell; start = length (signs_in around before); left_dots = left_of d; right_dots = right_of d;
-            inside = inside.Content (past_dots (left_of d) (length (signs_in around before) + 1)) (past_dots (left_of d) (length (signs_in around before) + 1) + length content)
-          }));
-          outer = outer_of around
-        } ≡ state
+        level = with_item (level_in around before) (item.Cell (record {
+          cell = cell;
+          start = length (signs_in around before);
+          left_dots = left_of d;
+          right_dots = right_of d;
+          inside = inside.Content (past_dots (left_of d) (length (signs_in around before) + 1)) (past_dots (left_of d) (length (signs_in around before) + 1) + length content);
+        }));
+        outer = outer_of around;
+      } ≡ state
       → Goes d content (mark.Close cell) state
   unfolding signs_of_item item_at IsItem
   content_closed d content is state same =
@@ -175,9 +178,12 @@ module _ (cells : List CellShape) (around : Around) (before : Side) (cell : ℕ)
 
   close_by : (d : Dots) (content : List Mark) → IsFront cells (Within around before cell d content) → (state : State) (tag : ℕ) (b : Bool) → (cell == tag) ≡ b
       → option_and_then (leave_to (level_in around before ∷ outer_of around)) (if b then Some (item.Cell (record {
-            cell = cell; start = length (signs_in around before); left_dots = left_of d; right_dots = right_of d;
-            inside = inside.Content (past_dots (left_of d) (length (signs_in around before) + 1)) (past_dots (left_of d) (length (signs_in around before) + 1) + length content)
-          })) else None) ≡ Some state
+        cell = cell;
+        start = length (signs_in around before);
+        left_dots = left_of d;
+        right_dots = right_of d;
+        inside = inside.Content (past_dots (left_of d) (length (signs_in around before) + 1)) (past_dots (left_of d) (length (signs_in around before) + 1) + length content);
+      })) else None) ≡ Some state
       → Goes d content (mark.Close tag) state
   close_by d content is state tag true same read =
       subst (λ k. Next cells (signs_read (Within around before cell d content)) (mark.Close k) state) (eqb-true cell tag same) (content_closed d content is state (cc))

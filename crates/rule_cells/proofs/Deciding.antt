@@ -54,13 +54,16 @@ read_more cells tokens at token state sign o within is kind read next =
 
 pub stopped : (cells : List CellShape) (tokens : List RuleToken) (at : ℕ) (token : RuleToken) (state : State) (sign : Mark) (o : Option State) → at < length tokens → token ≡ get_or tokens at token
     → sign ≡ kind_mark token.kind → steps cells nothing 0 (take at (marks tokens)) ≡ Some state → o ≡ step cells state at sign → o ≡ None → (number : ℕ) × IsReadUpTo cells tokens token.start number
-stopped cells tokens at token state sign o within is kind read next none = (at, record {
-  within = within;
-  place = ap (λ g. option_map_or (λ (t : RuleToken). t.start) g 0) (sym (slice_get_read tokens (length tokens) at token refl within is));
-  state = state;
-  read = read;
-  none = read_more cells tokens at token state sign o within is kind read next ∙ none;
-})
+stopped cells tokens at token state sign o within is kind read next none = (
+  at,
+  record {
+    within = within;
+    place = ap (λ g. option_map_or (λ (t : RuleToken). t.start) g 0) (sym (slice_get_read tokens (length tokens) at token refl within is));
+    state = state;
+    read = read;
+    none = read_more cells tokens at token state sign o within is kind read next ∙ none;
+  },
+)
 
 -- ---- a body
 
@@ -98,17 +101,26 @@ module _ (cells : List CellShape) where
 
   pub stops_of : (tokens : List RuleToken) (fault : FormFault) → list_any is_of_bag (marks tokens) ≡ true → IsReadFault cells tokens fault → IsBodyFault cells tokens fault
   stops_of tokens Memory bag stop = tt
-  stops_of tokens (NoReading at) bag stop = (bag, inl (stop.0, record {
-    within = stop.1.within;
-    place = stop.1.place;
-    begins = begins_of (take stop.0 (marks tokens)) stop.1.state stop.1.read;
-    none = none_of (take (stop.0 + 1) (marks tokens)) stop.1.none;
-  }))
+  stops_of tokens (NoReading at) bag stop = (
+    bag,
+    inl (
+      stop.0,
+      record {
+        within = stop.1.within;
+        place = stop.1.place;
+        begins = begins_of (take stop.0 (marks tokens)) stop.1.state stop.1.read;
+        none = none_of (take (stop.0 + 1) (marks tokens)) stop.1.none;
+      },
+    ),
+  )
 
   pub open_of : (tokens : List RuleToken) (at : ℕ) (state : State) → list_any is_of_bag (marks tokens) ≡ true → at ≡ end_of tokens → steps cells nothing 0 (marks tokens) ≡ Some state → side_read state ≡ None
       → IsNoReading cells tokens at
-  open_of tokens at state bag place read none = (bag, inr (record {
-    place = place;
-    begins = begins_of (marks tokens) state read;
-    none = λ one written. let no = sym none ∙ side_of_written (marks tokens) one state written read in cc;
-  }))
+  open_of tokens at state bag place read none = (
+    bag,
+    inr (record {
+      place = place;
+      begins = begins_of (marks tokens) state read;
+      none = λ one written. let no = sym none ∙ side_of_written (marks tokens) one state written read in cc;
+    }),
+  )

@@ -126,7 +126,7 @@ unfolding signs_of_item item_at
 last_add at (Same items) one = refl
 last_add at (Changed left right) one =
     let e : at + length (signs_of_items left) + 1 + length (signs_of_items right) ≡ at + length (signs_of_items left ++ mark.Rewrite ∷ signs_of_items right) =
-        omega (arith, length-append (signs_of_items left) (mark.Rewrite ∷ signs_of_items right)) in
+    omega (arith, length-append (signs_of_items left) (mark.Rewrite ∷ signs_of_items right)) in
     ap (λ n. items_at (at + length (signs_of_items left) + 1) right ++ item_at n one ∷ []) e
 
 some_signs : (one : Item) → signs_of_item one ≡ [] → ⊥
@@ -217,7 +217,7 @@ module _ (cells : List CellShape) where
   }
   among_begins (InBracket around before) (Same items) is =
       let whole = among_begins around (add before (Rewritten items Nothing))
-          (added_is around before (Rewritten items Nothing) is.0.0 is.0.1 is.0.2 (is.1, tt)) in
+      (added_is around before (Rewritten items Nothing) is.0.0 is.0.1 is.0.2 (is.1, tt)) in
       closing_signs around before (Rewritten items Nothing) is.0.2 (signs_read (Among (InBracket around before) (Same items))) (mark.Rewrite ∷ mark.RightBracket ∷ [])
       (arrow_left (signs_in around before) (signs_of_items items)) whole
   among_begins (InBracket around before) (Changed left right) is =

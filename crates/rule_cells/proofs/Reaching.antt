@@ -92,14 +92,21 @@ module _ (cells : List CellShape) where
   place (InBracket around before) one o is on =
       let same : Bracket (length (signs_in around before)) ≡ o = cc in
       record {
-        around = InBracket around before; is = is.0; on = tt; level_is = ap (with_opening (level_in (InBracket around before) one)) same; outer_is = refl;
+        around = InBracket around before;
+        is = is.0;
+        on = tt;
+        level_is = ap (with_opening (level_in (InBracket around before) one)) same;
+        outer_is = refl;
         signs_are = sym (append-nil (signs_in (InBracket around before) one));
       }
   place (InCells around before cell Fresh) one o is on =
       let same : Cells cell (length (signs_in around before)) (Inside false) ≡ o = cc in
       record {
-        around = InCells around before cell (Inside false); is = is.0; on = refl;
-        level_is = ap (with_opening (level_in (InCells around before cell (Inside false)) one)) same; outer_is = refl;
+        around = InCells around before cell (Inside false);
+        is = is.0;
+        on = refl;
+        level_is = ap (with_opening (level_in (InCells around before cell (Inside false)) one)) same;
+        outer_is = refl;
         signs_are = sym (append-nil (signs_in (InCells around before cell (Inside false)) one));
       }
   place (InCells around before cell Alone) one o is on =
@@ -107,8 +114,11 @@ module _ (cells : List CellShape) where
   place (InCells around before cell (Inside left)) one o is on =
       let same : Cells cell (length (signs_in around before)) (Inside left) ≡ o = cc in
       record {
-        around = InCells around before cell (Inside left); is = is.0; on = refl;
-        level_is = ap (with_opening (level_in (InCells around before cell (Inside left)) one)) same; outer_is = refl;
+        around = InCells around before cell (Inside left);
+        is = is.0;
+        on = refl;
+        level_is = ap (with_opening (level_in (InCells around before cell (Inside left)) one)) same;
+        outer_is = refl;
         signs_are = sym (append-nil (signs_in (InCells around before cell (Inside left)) one));
       }
   place (InCells around before cell (After left)) one o is on = absurd (cc)
@@ -276,12 +286,15 @@ module _ (cells : List CellShape) where
 
   tag_closes : (around : Around) (before : Side) (cell : ℕ) (d : Dots) (one : Side) → IsFront cells (Among (InCells around before cell d) one) → (state : State)
       → record {
-          level = with_item (level_in around before) (item.Cell (record {
-            cell = cell; start = length (signs_in around before); left_dots = left_of d; right_dots = right_of d;
-            inside = inside.Cells (side_of (before_at (length (signs_around (InCells around before cell d))) one) (last_at (length (signs_around (InCells around before cell d))) one))
-          }));
-          outer = outer_of around
-        } ≡ state
+        level = with_item (level_in around before) (item.Cell (record {
+          cell = cell;
+          start = length (signs_in around before);
+          left_dots = left_of d;
+          right_dots = right_of d;
+          inside = inside.Cells (side_of (before_at (length (signs_around (InCells around before cell d))) one) (last_at (length (signs_around (InCells around before cell d))) one));
+        }));
+        outer = outer_of around;
+      } ≡ state
       → Next cells (signs_read (Among (InCells around before cell d) one)) (mark.Close cell) state
   unfolding signs_of_item item_at IsItem
   tag_closes around before cell d one is state same =
@@ -294,18 +307,21 @@ module _ (cells : List CellShape) where
         is = added_is cells around before more is.0.0 is.0.1 is.0.2 (is.0.3, is.1, is.2.0);
         state_is = added_state cells around before more
             ∙ (λ i. record {
-                level = with_item (level_in around before) (item.Cell (record { cell = cell; start = n; left_dots = left_of d; right_dots = right_of d; inside = inside.Cells ((ap (λ k. side_at k one) e ∙ sym f) i) }));
-                outer = outer_of around
-              })
+              level = with_item (level_in around before) (item.Cell (record { cell = cell; start = n; left_dots = left_of d; right_dots = right_of d; inside = inside.Cells ((ap (λ k. side_at k one) e ∙ sym f) i) }));
+              outer = outer_of around;
+            })
             ∙ same;
         signs_are = added_signs cells around before more is.0.2 ∙ tag_left (signs_in around before) (dots (left_of d)) (signs_of_side one) (dots (right_of d)) cell;
       }
 
   close_by : (around : Around) (before : Side) (c : ℕ) (d : Dots) (one : Side) → IsFront cells (Among (InCells around before c d) one) → (state : State) (cell : ℕ) (b : Bool) → (c == cell) ≡ b
       → option_and_then (leave_to (level_in around before ∷ outer_of around)) (if b then Some (item.Cell (record {
-            cell = c; start = length (signs_in around before); left_dots = left_of d; right_dots = right_of d;
-            inside = inside.Cells (side_of (before_at (length (signs_around (InCells around before c d))) one) (last_at (length (signs_around (InCells around before c d))) one))
-          })) else None) ≡ Some state
+        cell = c;
+        start = length (signs_in around before);
+        left_dots = left_of d;
+        right_dots = right_of d;
+        inside = inside.Cells (side_of (before_at (length (signs_around (InCells around before c d))) one) (last_at (length (signs_around (InCells around before c d))) one));
+      })) else None) ≡ Some state
       → Next cells (signs_read (Among (InCells around before c d) one)) (mark.Close cell) state
   close_by around before c d one is state cell true same read =
       subst (λ k. Next cells (signs_read (Among (InCells around before c d) one)) (mark.Close k) state) (eqb-true c cell same) (tag_closes around before c d one is state (cc))

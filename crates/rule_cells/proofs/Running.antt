@@ -149,7 +149,7 @@ module _ (cells : List CellShape) where
   unfolding signs_of_item item_at
   more_run more one run runs o next before items outer at rest on on_next =
       let e : at + length (signs_of_items more) + length (signs_of_item one) ≡ at + length (signs_of_items more ++ signs_of_item one) =
-          omega (arith, length-append (signs_of_items more) (signs_of_item one)) in
+      omega (arith, length-append (signs_of_items more) (signs_of_item one)) in
       let f = append_assoc items (items_at at more) (item_at (at + length (signs_of_items more)) one ∷ []) in
       ap (λ l. steps cells (at_level o before items outer) at l) (append_assoc (signs_of_items more) (signs_of_item one) rest)
       ∙ run o next before items outer at (signs_of_item one ++ rest) on on_next
@@ -180,7 +180,7 @@ module _ (cells : List CellShape) where
   changed_runs left right one other o next outer at rest on on_next =
       let past = at + length (signs_of_items left) + 1 in
       let e : past + length (signs_of_items right) ≡ at + length (signs_of_items left ++ mark.Rewrite ∷ signs_of_items right) =
-          omega (arith, length-append (signs_of_items left) (mark.Rewrite ∷ signs_of_items right)) in
+      omega (arith, length-append (signs_of_items left) (mark.Rewrite ∷ signs_of_items right)) in
       let f = same_reopened right next in
       ap (λ l. steps cells (at_level o None [] outer) at l) (append_assoc (signs_of_items left) (mark.Rewrite ∷ signs_of_items right) rest)
       ∙ one o next None [] outer at (mark.Rewrite ∷ signs_of_items right ++ rest) on on_next
@@ -208,7 +208,7 @@ module _ (cells : List CellShape) where
       let signs = signs_of_items left ++ mark.Rewrite ∷ signs_of_items right in
       let level : Level = record { opening = next; before = before; items = items } in
       let e : at + 1 + length signs + 1 ≡ at + length ((mark.LeftBracket ∷ signs) ++ mark.RightBracket ∷ []) =
-          omega (arith, length-append signs (mark.RightBracket ∷ [])) in
+      omega (arith, length-append signs (mark.RightBracket ∷ [])) in
       bracket_opens o next before items outer at ((signs ++ mark.RightBracket ∷ []) ++ rest) on
       ∙ ap (λ l. steps cells (at_level (Bracket at) None [] (level ∷ outer)) (at + 1) l) (append_assoc signs (mark.RightBracket ∷ []) rest)
       ∙ run (Bracket at) (Bracket at) (level ∷ outer) (at + 1) (mark.RightBracket ∷ rest) refl refl
@@ -243,9 +243,9 @@ module _ (cells : List CellShape) where
   cells_close : (cell start : ℕ) (d : Dots) (before : Option (List item.Item)) (items : List item.Item) (level : Level) (outer : List Level) (at : ℕ) (rest : List Mark)
       → steps cells (at_level (Cells cell start d) before items (level ∷ outer)) at (mark.Close cell ∷ rest)
       ≡ steps cells (record {
-          level = with_item level (item.Cell (record { cell = cell; start = start; left_dots = left_of d; right_dots = right_of d; inside = inside.Cells (side_of before items) }));
-          outer = outer
-        }) (at + 1) rest
+        level = with_item level (item.Cell (record { cell = cell; start = start; left_dots = left_of d; right_dots = right_of d; inside = inside.Cells (side_of before items) }));
+        outer = outer;
+      }) (at + 1) rest
   unfolding steps
   cells_close cell start d before items level outer at rest = rw (eq_self cell) refl
 
@@ -275,9 +275,9 @@ module _ (cells : List CellShape) where
       ∙ right_dots right cell at last d.now (before_at from one) (last_at from one) (level ∷ outer) (from + length signs) (mark.Close cell ∷ rest) d.ends
       ∙ cells_close cell at d.now (before_at from one) (last_at from one) level outer (past_dots right (from + length signs)) rest
       ∙ (λ i. steps cells (record {
-          level = with_item level (item.Cell (record { cell = cell; start = at; left_dots = d.at_left i; right_dots = d.at_right i; inside = inside.Cells (content i) }));
-          outer = outer
-        }) (cell_size (mark.Open cell) (mark.Close cell) left right signs at i) rest)
+        level = with_item level (item.Cell (record { cell = cell; start = at; left_dots = d.at_left i; right_dots = d.at_right i; inside = inside.Cells (content i) }));
+        outer = outer;
+      }) (cell_size (mark.Open cell) (mark.Close cell) left right signs at i) rest)
 
   -- ---- cells with a content
 
@@ -339,9 +339,9 @@ module _ (cells : List CellShape) where
   content_close : (cell start : ℕ) (d : Dots) (first past : ℕ) (level : Level) (outer : List Level) (at : ℕ) (rest : List Mark)
       → steps cells (at_level (Content cell start d first past) None [] (level ∷ outer)) at (mark.Close cell ∷ rest)
       ≡ steps cells (record {
-          level = with_item level (item.Cell (record { cell = cell; start = start; left_dots = left_of d; right_dots = right_of d; inside = inside.Content first past }));
-          outer = outer
-        }) (at + 1) rest
+        level = with_item level (item.Cell (record { cell = cell; start = start; left_dots = left_of d; right_dots = right_of d; inside = inside.Content first past }));
+        outer = outer;
+      }) (at + 1) rest
   unfolding steps
   content_close cell start d first past level outer at rest = rw (eq_self cell) refl
 
@@ -350,12 +350,15 @@ module _ (cells : List CellShape) where
   Closes left content right = (cell start : ℕ) (level : Level) (outer : List Level) (rest : List Mark)
       → steps cells (at_level (Content cell start (first_dots left) (start + 1) (start + 1)) None [] (level ∷ outer)) (past_dots left (start + 1)) (content ++ (dots right ++ mark.Close cell ∷ rest))
       ≡ steps cells (record {
-          level = with_item level (item.Cell (record {
-            cell = cell; start = start; left_dots = left; right_dots = right;
-            inside = inside.Content (past_dots left (start + 1)) (past_dots left (start + 1) + length content)
-          }));
-          outer = outer
-        }) (past_dots right (past_dots left (start + 1) + length content) + 1) rest
+        level = with_item level (item.Cell (record {
+          cell = cell;
+          start = start;
+          left_dots = left;
+          right_dots = right;
+          inside = inside.Content (past_dots left (start + 1)) (past_dots left (start + 1) + length content);
+        }));
+        outer = outer;
+      }) (past_dots right (past_dots left (start + 1) + length content) + 1) rest
 
   none_closes : (left right : Bool) → (left ≡ true → right ≡ true) → Closes left [] right
   unfolding steps
@@ -363,31 +366,31 @@ module _ (cells : List CellShape) where
       let e : start + 1 ≡ start + 1 + 0 = omega arith in
       content_close cell start Fresh (start + 1) (start + 1) level outer (start + 1) rest
       ∙ (λ i. steps cells (record {
-          level = with_item level (item.Cell (record { cell = cell; start = start; left_dots = false; right_dots = false; inside = inside.Content (start + 1) (e i) }));
-          outer = outer
-        }) (e i + 1) rest)
+        level = with_item level (item.Cell (record { cell = cell; start = start; left_dots = false; right_dots = false; inside = inside.Content (start + 1) (e i) }));
+        outer = outer;
+      }) (e i + 1) rest)
   none_closes false true alone cell start level outer rest =
       let e : start + 1 ≡ start + 1 + 0 = omega arith in
       content_close cell start Alone (start + 1) (start + 1) level outer (start + 1 + 1) rest
       ∙ (λ i. steps cells (record {
-          level = with_item level (item.Cell (record { cell = cell; start = start; left_dots = false; right_dots = true; inside = inside.Content (start + 1) (e i) }));
-          outer = outer
-        }) (e i + 1 + 1) rest)
+        level = with_item level (item.Cell (record { cell = cell; start = start; left_dots = false; right_dots = true; inside = inside.Content (start + 1) (e i) }));
+        outer = outer;
+      }) (e i + 1 + 1) rest)
   none_closes true true alone cell start level outer rest =
       let e : start + 1 + 1 ≡ start + 1 + 1 + 0 = omega arith in
       content_close cell start (After true) (start + 1 + 1) (start + 1 + 1) level outer (start + 1 + 1 + 1) rest
       ∙ (λ i. steps cells (record {
-          level = with_item level (item.Cell (record { cell = cell; start = start; left_dots = true; right_dots = true; inside = inside.Content (start + 1 + 1) (e i) }));
-          outer = outer
-        }) (e i + 1 + 1) rest)
+        level = with_item level (item.Cell (record { cell = cell; start = start; left_dots = true; right_dots = true; inside = inside.Content (start + 1 + 1) (e i) }));
+        outer = outer;
+      }) (e i + 1 + 1) rest)
   none_closes true false alone cell start level outer rest = let no : false ≡ true = alone refl in absurd (cc)
 
   some_ends : (left right : Bool) (cell start first past : ℕ) (level : Level) (outer : List Level) (at : ℕ) (rest : List Mark)
       → steps cells (at_level (Content cell start (Inside left) first past) None [] (level ∷ outer)) at (dots right ++ mark.Close cell ∷ rest)
       ≡ steps cells (record {
-          level = with_item level (item.Cell (record { cell = cell; start = start; left_dots = left; right_dots = right; inside = inside.Content first past }));
-          outer = outer
-        }) (past_dots right at + 1) rest
+        level = with_item level (item.Cell (record { cell = cell; start = start; left_dots = left; right_dots = right; inside = inside.Content first past }));
+        outer = outer;
+      }) (past_dots right at + 1) rest
   unfolding steps
   some_ends left false cell start first past level outer at rest = content_close cell start (Inside left) first past level outer at rest
   some_ends left true cell start first past level outer at rest = content_close cell start (After left) first past level outer (at + 1) rest
@@ -410,12 +413,13 @@ module _ (cells : List CellShape) where
       ∙ content_left left cell at (at + 1) (at + 1) (level ∷ outer) (at + 1) (content ++ (dots right ++ mark.Close cell ∷ rest))
       ∙ content_closes left content right plain alone cell at level outer rest
       ∙ ap (λ n. steps cells (record { level = with_item level (item_at at (OfContent cell left content right)); outer = outer }) n rest)
-        (cell_size (mark.Open cell) (mark.Close cell) left right content at)
+      (cell_size (mark.Open cell) (mark.Close cell) left right content at)
 
   -- ---- all of them
 
   mutual
     unfolding IsItem
+
     item_runs : (one : Item) → IsItem cells one → ItemRuns one
     item_runs EmptyBag allowed = bag_runs
     item_runs Point allowed = point_runs

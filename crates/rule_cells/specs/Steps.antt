@@ -98,20 +98,25 @@ side_of (Some left) items = side.Change left items
 -- the item that a level is which a bracket closes
 abbrev pub bracket_item : Level → Option item.Item
 bracket_item level = elim level.opening [
-    Body ↦ None
+  | Body ↦ None
   | Bracket start ↦ option_map (λ left. item.Change start left level.items) level.before
   | Cells cell start dots ↦ None
-  | Content cell start dots first past ↦ None ]
+  | Content cell start dots first past ↦ None
+]
+
+-- a cell as an item, if this is its closing tag
+abbrev pub cell_item : ℕ → ℕ → Dots → inside.Inside → ℕ → Option item.Item
+cell_item cell start dots held tag =
+    if cell == tag then Some (item.Cell (record { cell = cell; start = start; left_dots = left_of dots; right_dots = right_of dots; inside = held })) else None
 
 -- the item that a level is which a tag closes
 abbrev pub tag_item : Level → ℕ → Option item.Item
 tag_item level tag = elim level.opening [
-    Body ↦ None
+  | Body ↦ None
   | Bracket start ↦ None
-  | Cells cell start dots ↦
-      if cell == tag then Some (item.Cell (record { cell = cell; start = start; left_dots = left_of dots; right_dots = right_of dots; inside = inside.Cells (side_of level.before level.items) })) else None
-  | Content cell start dots first past ↦
-      if cell == tag then Some (item.Cell (record { cell = cell; start = start; left_dots = left_of dots; right_dots = right_of dots; inside = inside.Content first past })) else None ]
+  | Cells cell start dots ↦ cell_item cell start dots (inside.Cells (side_of level.before level.items)) tag
+  | Content cell start dots first past ↦ cell_item cell start dots (inside.Content first past) tag
+]
 
 -- ---- states: the innermost level, and those around it
 
@@ -178,7 +183,8 @@ steps cells state at (sign ∷ signs) = option_and_then (λ next. steps cells ne
 -- what the body is, where nothing is open
 abbrev pub side_read : State → Option side.Side
 side_read state = elim state.level.opening [
-    Body ↦ Some (side_of state.level.before state.level.items)
+  | Body ↦ Some (side_of state.level.before state.level.items)
   | Bracket start ↦ None
   | Cells cell start dots ↦ None
-  | Content cell start dots first past ↦ None ]
+  | Content cell start dots first past ↦ None
+]

@@ -13,7 +13,9 @@ pub enum Item {
         right: Many<Item>,
     },
     /// `.Bag` or `.`, which stands for no cells.
-    Nothing { at: usize },
+    Nothing {
+        at: usize,
+    },
 }
 
 /// A cell: its declared cell, its opening tag, whether `...` stands at its left and at its right, and what stands

@@ -84,11 +84,7 @@ fn has_bag(tokens: &[RuleToken]) -> bool
 }
 
 /// What is read of a body of cells.
-fn read_tokens(
-    alloc: Global,
-    cells: &[CellShape],
-    tokens: &[RuleToken],
-) -> Result<State, FormFault>
+fn read_tokens(alloc: Global, cells: &[CellShape], tokens: &[RuleToken]) -> Result<State, FormFault>
     ensures { MatchResult result (IsReadTo cells.now tokens.now) (IsReadFault cells.now tokens.now) }
 {
     let mut state = nothing(alloc);
@@ -115,11 +111,7 @@ fn end_of(tokens: &[RuleToken]) -> usize
 }
 
 /// Reads a body of cells.
-fn read_cells(
-    alloc: Global,
-    cells: &[CellShape],
-    tokens: &[RuleToken],
-) -> Result<Side, FormFault>
+fn read_cells(alloc: Global, cells: &[CellShape], tokens: &[RuleToken]) -> Result<Side, FormFault>
     requires { list_any of_bag (marks tokens.now) ≡ true }
     ensures { MatchResult result (IsSideRead cells.now (marks tokens.now)) (IsBodyFault cells.now tokens.now) }
 {
@@ -134,11 +126,7 @@ fn read_cells(
 }
 
 /// Reads a body.
-fn read_body(
-    alloc: Global,
-    cells: &[CellShape],
-    tokens: &[RuleToken],
-) -> Result<Inside, FormFault>
+fn read_body(alloc: Global, cells: &[CellShape], tokens: &[RuleToken]) -> Result<Inside, FormFault>
     ensures { MatchResult result (IsBody cells.now (marks tokens.now)) (IsBodyFault cells.now tokens.now) }
 {
     if !has_bag(tokens) {
@@ -153,9 +141,9 @@ fn read_body(
     }
 }
 
-/// Divides the text of a rule, given by its tokens: the first word `when` or `requires` begins the condition, and what
-/// stands before it is the body, which is cells where it has a tag or `.Bag`, and else one content. Cells nest as deep as
-/// the text.
+/// Divides the text of a rule, given by its tokens. The first word `when` or `requires` begins the condition, and what
+/// stands before it is the body: cells where it has a tag or `.Bag`, else one content. Cells nest as deep as the text;
+/// the time is linear in the tokens.
 pub fn read_form(
     alloc: Global,
     cells: &[CellShape],

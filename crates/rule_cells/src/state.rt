@@ -4,7 +4,7 @@ ghost use Rattle.std.specs.Option.{option_and_then};
 ghost use Rattle.rule_cells.specs.declared.mark.Mark.TheVariants.{Rewrite};
 ghost use Rattle.rule_terms.specs.Sound.{has_cells as kind_has_cells};
 ghost use Rattle.rule_cells.specs.Written.{is_of_cells as cell_is_of_cells};
-ghost use Rattle.rule_cells.specs.Steps.{going_on as goes_on, content_on as content_goes_on, dots_on as dots_go_on, is_content as opens_content, opening_of as cell_opening, side_of as side_by, bracket_item as item_of_bracket, tag_item as item_of_tag, nothing as nothing_read, add_item as item_added, enter as entered, leave_to as left_to, reopen as reopened, item_step as stepped_item, plain_step as stepped_plain, step as stepped, side_read as read_side};
+ghost use Rattle.rule_cells.specs.Steps.{going_on as goes_on, content_on as content_goes_on, dots_on as dots_go_on, is_content as opens_content, opening_of as cell_opening, side_of as side_by, bracket_item as item_of_bracket, cell_item as item_of_cell, tag_item as item_of_tag, nothing as nothing_read, add_item as item_added, enter as entered, leave_to as left_to, reopen as reopened, item_step as stepped_item, plain_step as stepped_plain, step as stepped, side_read as read_side};
 
 use crate::dots::{Dots, begun, dotted, left_of, right_of};
 use crate::form::{Cell, Inside, Item, Side};
@@ -244,6 +244,22 @@ fn bracket_item(level: Level) -> Option<Item>
     }
 }
 
+/// A cell as an item, if this is its closing tag.
+fn cell_item(cell: u32, start: usize, dots: Dots, inside: Inside, tag: u32) -> Option<Item>
+    ensures { result ≡ item_of_cell cell start dots inside tag }
+{
+    if cell != tag {
+        return None;
+    }
+    Some(Item::Cell(Cell {
+        cell,
+        start,
+        left_dots: left_of(dots),
+        right_dots: right_of(dots),
+        inside,
+    }))
+}
+
 /// The item that a level is which the closing tag of a cell closes.
 fn tag_item(level: Level, tag: u32) -> Option<Item>
     ensures { result ≡ item_of_tag level tag }
@@ -257,16 +273,8 @@ fn tag_item(level: Level, tag: u32) -> Option<Item>
         Opening::Body => None,
         Opening::Bracket { .. } => None,
         Opening::Cells { cell, start, dots } => {
-            if cell != tag {
-                return None;
-            }
-            Some(Item::Cell(Cell {
-                cell,
-                start,
-                left_dots: left_of(dots),
-                right_dots: right_of(dots),
-                inside: Inside::Cells(side_of(before, items)),
-            }))
+            let inside = Inside::Cells(side_of(before, items));
+            cell_item(cell, start, dots, inside, tag)
         }
         Opening::Content {
             cell,
@@ -274,18 +282,7 @@ fn tag_item(level: Level, tag: u32) -> Option<Item>
             dots,
             first,
             past,
-        } => {
-            if cell != tag {
-                return None;
-            }
-            Some(Item::Cell(Cell {
-                cell,
-                start,
-                left_dots: left_of(dots),
-                right_dots: right_of(dots),
-                inside: Inside::Content { first, past },
-            }))
-        }
+        } => cell_item(cell, start, dots, Inside::Content { first, past }, tag),
     }
 }
 

@@ -45,8 +45,8 @@ fn sorts(alloc: Global) -> Result<Many<Text>, Fail>
 {
     let mut names = Many::new(alloc);
     for name in [
-        "K", "KItem", "KResult", "Int", "Bool", "String", "Id", "Map", "List", "Bag", "Stmt", "Ids",
-        "Cmd", "Cmds",
+        "K", "KItem", "KResult", "Int", "Bool", "String", "Id", "Map", "List", "Bag", "Stmt",
+        "Ids", "Cmd", "Cmds",
     ] {
         names.push(text_of(alloc, name)?)?;
     }
@@ -59,10 +59,7 @@ fn sorts(alloc: Global) -> Result<Many<Text>, Fail>
 /// A grammar with these sorts, and with the terminals of the rules.
 fn grammar(alloc: Global) -> Result<Grammar, Fail> {
     let mut prods = Many::new(alloc);
-    prods.push(production(
-        alloc,
-        &["int", ",", ";", "=", "{", "}", "/", "(", ")"],
-    )?)?;
+    prods.push(production(alloc, &["int", ",", ";", "=", "{", "}", "/", "(", ")"])?)?;
     prods.push(production(
         alloc,
         &[
@@ -276,10 +273,7 @@ fn divides_bodies(rt: HostRuntime) -> Result<(), Fail> {
         ("<k>... ...</k>", "k@0{L 2-2 R } "),
         ("<k></k>", "k@0{1-1 } "),
         ("<k>... x</k>", "k@0{L 2-3 } "),
-        (
-            ".Bag => <thread>...</thread>",
-            ".@0 => thread@2{R } ",
-        ),
+        (".Bag => <thread>...</thread>", ".@0 => thread@2{R } "),
         ("<k> x </k> => .", "k@0{1-2 } => .@4 "),
         (
             "(. => (<k> x </k> => .Bag))",
