@@ -1,0 +1,6 @@
+pub mod Marks
+pub mod Written
+pub mod Forms
+pub mod Steps
+pub mod Reading
+pub mod Laws
