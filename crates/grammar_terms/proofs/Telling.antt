@@ -1,6 +1,7 @@
 -- A reading of a program's tokens is told by its value.
-use Rattle.std.proofs.Common.{ℕ, suc, ◌≡◌, inl, inr, ◌+◌, ◌-◌, ◌==◌, Bool, true, false, cond, List, [], ◌∷◌, ◌++◌, length, map, take, drop, slice_get, codes, Option, Some, None, option_map, refl, sym, ap, ◌∙◌, subst, true≢false, add-one, drop-cons, zero, length-append}
+use Rattle.std.proofs.Common.{arith, ℕ, suc, ◌≡◌, inl, inr, ◌+◌, ◌-◌, ◌==◌, Bool, true, false, cond, List, [], ◌∷◌, ◌++◌, length, map, take, drop, slice_get, codes, Option, Some, None, option_map, refl, sym, ap, ◌∙◌, subst, true≢false, add-one, drop-cons, zero, length-append}
 use Rattle.std.proofs.Math.Seq.{take-length}
+use Rattle.std.proofs.lemmas.Bool.Decides.{nat_tests}
 use Rattle.std.specs.List.{AllByRecursion}
 use Rattle.std.proofs.lemmas.List.{take_more, map_push}
 use Rattle.std.proofs.lemmas.Option.{slice_get_within, get_or_from_slice_get}
@@ -15,10 +16,11 @@ use Rattle.grammar_terms.specs.declared.word.WordKind.{WordKind}
 use Rattle.grammar_terms.specs.declared.word.WordKind.TheVariants.{Terminal as TerminalWord, Literal, Variable, Wild, EmptyList}
 use Rattle.grammar_terms.specs.Grammar.{Syntax, production_at}
 use Rattle.grammar_terms.specs.Reading.{IsTerminalAt, is_leaf, is_wild, is_wild_at, IsLeafAt, IsWordAt, IsListOf, IsBetween, Reads, Parts, Elements, Child, Sequence, Joins, IsReading}
+use Rattle.grammar_terms.specs.Places.{place_of_terminal, place_by, token_place, token_place_at}
 use Rattle.grammar_terms.specs.Reading.Reads.{reads_plain, reads_bracket, reads_list, reads_rest, reads_empty}
 use Rattle.grammar_terms.specs.Reading.Parts.{no_item, terminal_item, sort_item}
 use Rattle.grammar_terms.specs.Reading.Elements.{no_element, first_element, next_element}
-use Rattle.grammar_terms.specs.Reading.Child.{stands_leaf, stands_wild, stands_reading, stands_nothing, stands_sequence}
+use Rattle.grammar_terms.specs.Reading.Child.{stands_leaf, stands_wild, stands_token, stands_reading, stands_nothing, stands_sequence}
 use Rattle.grammar_terms.specs.Reading.Sequence.{one_part, next_part}
 use Rattle.grammar_terms.specs.Reading.Joins.{joins_item, joins_variable}
 use Rattle.grammar_terms.specs.Values.{value_of, values_by, sorts_in, sorts_of, first_or_item, list_value, at_sort, literal_at, literal_of, is_plain_value, is_of_program, AreOfProgram}
@@ -79,12 +81,12 @@ places_between words (byte ∷ bytes) at next is = places_terminal words at (byt
 
 -- ---- literals
 
-plain_literal : (kind : WordKind) → is_of_program kind ≡ true → is_leaf kind ≡ true → is_plain_value (literal_of kind) ≡ true
-plain_literal (TerminalWord text) of_program leaf = cc
-plain_literal (Literal value) of_program leaf = of_program
-plain_literal Variable of_program leaf = cc
-plain_literal Wild of_program leaf = cc
-plain_literal EmptyList of_program leaf = cc
+plain_literal : (kind : WordKind) (sort : ℕ) → is_of_program kind sort ≡ true → is_leaf kind ≡ true → is_plain_value (literal_of kind) ≡ true
+plain_literal (TerminalWord text) sort of_program leaf = absurd (true≢false (sym leaf))
+plain_literal (Literal value) sort of_program leaf = of_program
+plain_literal Variable sort of_program leaf = cc
+plain_literal Wild sort of_program leaf = cc
+plain_literal EmptyList sort of_program leaf = cc
 
 one_or_whole : (is_sequence : Bool) (v : Value) (left : List ℕ) → back (cond is_sequence (SeqV (v ∷ [])) v) left ≡ back v left
 one_or_whole true v left = back_one v left
@@ -102,23 +104,47 @@ any_sort_back prods words sort shape left = elim (value_at_sort prods words sort
 
 -- ---- a program has none of the tokens of rules
 
-no_word_at : (words : List Word) (at sort : ℕ) (kind : WordKind) → AreOfProgram words → is_of_program kind ≡ false → IsWordAt words at kind sort → ⊥
+no_word_at : (words : List Word) (at sort : ℕ) (kind : WordKind) → AreOfProgram words → is_of_program kind sort ≡ false → IsWordAt words at kind sort → ⊥
 no_word_at words at sort kind program none word =
-    true≢false (sym (all_at (λ it. is_of_program it.kind ≡ true) words at word.0 program word.1) ∙ ap is_of_program word.2 ∙ none)
+    true≢false (sym (all_at (λ it. is_of_program it.kind it.sort ≡ true) words at word.0 program word.1) ∙ (λ i. is_of_program (word.2 i) (word.3 i)) ∙ none)
 
-no_wild : (kind : WordKind) → is_of_program kind ≡ true → is_wild kind ≡ true → ⊥
-no_wild (TerminalWord text) program wild = true≢false (sym wild)
-no_wild (Literal value) program wild = true≢false (sym wild)
-no_wild Variable program wild = true≢false (sym wild)
-no_wild Wild program wild = true≢false (sym program)
-no_wild EmptyList program wild = true≢false (sym wild)
+no_wild : (kind : WordKind) (sort : ℕ) → is_of_program kind sort ≡ true → is_wild kind ≡ true → ⊥
+no_wild (TerminalWord text) sort program wild = true≢false (sym wild)
+no_wild (Literal value) sort program wild = true≢false (sym wild)
+no_wild Variable sort program wild = true≢false (sym wild)
+no_wild Wild sort program wild = true≢false (sym program)
+no_wild EmptyList sort program wild = true≢false (sym wild)
 
 no_wild_at : (words : List Word) (at : ℕ) → AreOfProgram words → is_wild_at words at ≡ true → ⊥
 no_wild_at words at program wild = elim (slice_get words at) as (λ it. it ≡ slice_get words at → ⊥) [
   | None ↦ λ e. true≢false (sym wild ∙ ap (λ it. elim it [ None ↦ false | Some word ↦ is_wild word.kind ]) (sym e))
   | Some word ↦ λ e.
-      no_wild word.kind (all_at (λ it. is_of_program it.kind ≡ true) words at word program (sym e))
+      no_wild word.kind word.sort (all_at (λ it. is_of_program it.kind it.sort ≡ true) words at word program (sym e))
       (ap (λ it. elim it [ None ↦ false | Some other ↦ is_wild other.kind ]) e ∙ wild)
+] refl
+
+none_some : (sort : ℕ) → None ≡ Some sort → ⊥
+none_some sort same = cc
+
+is_zero : (sort : ℕ) → (sort == 0) ≡ true → sort ≡ 0
+is_zero sort program = grind (arith, nat_tests)
+
+no_terminal : (sort place : ℕ) → (sort == 0) ≡ true → place_of_terminal sort ≡ Some place → ⊥
+no_terminal sort place program is = none_some place (ap place_of_terminal (sym (is_zero sort program)) ∙ is)
+
+no_place : (kind : WordKind) (sort bytes place : ℕ) → is_of_program kind sort ≡ true → place_by kind sort bytes ≡ Some place → ⊥
+no_place (TerminalWord text) sort bytes place program is = no_terminal sort place program is
+no_place (Literal value) sort bytes place program is = none_some place is
+no_place Variable sort bytes place program is = true≢false (sym program)
+no_place Wild sort bytes place program is = true≢false (sym program)
+no_place EmptyList sort bytes place program is = true≢false (sym program)
+
+no_place_at : (words : List Word) (at place : ℕ) → AreOfProgram words → token_place_at words at ≡ Some place → ⊥
+no_place_at words at place program is = elim (slice_get words at) as (λ it. it ≡ slice_get words at → ⊥) [
+  | None ↦ λ e. none_some place (ap (λ it. elim it [ None ↦ None | Some word ↦ token_place word ]) e ∙ is)
+  | Some word ↦ λ e.
+      no_place word.kind word.sort (word.end - word.start) place (all_at (λ it. is_of_program it.kind it.sort ≡ true) words at word program (sym e))
+      (ap (λ it. elim it [ None ↦ None | Some other ↦ token_place other ]) e ∙ is)
 ] refl
 
 -- ---- numbers of productions
@@ -147,7 +173,7 @@ module _ (g : Syntax) (words : List Word) (program : AreOfProgram words) where
   leaf_back sort at own shape leaf is =
       let word : Word = leaf.0 in
       let here : literal_at words at ≡ literal_of word.kind = ap (λ it. elim it [ None ↦ literal_of EmptyList | Some other ↦ literal_of other.kind ]) leaf.1 in
-      let plain : is_plain_value (literal_of word.kind) ≡ true = plain_literal word.kind (all_at (λ it. is_of_program it.kind ≡ true) words at word program leaf.1) leaf.2 in
+      let plain : is_plain_value (literal_of word.kind) ≡ true = plain_literal word.kind word.sort (all_at (λ it. is_of_program it.kind it.sort ≡ true) words at word program leaf.1) leaf.2 in
       let list : places words at ≡ at ∷ places words (at + 1) =
       places_get words at word leaf.1 ∙ ap (λ b. cond b (at ∷ places words (at + 1)) (places words (at + 1))) leaf.2 in
       ap (λ it. back (value_of g.prods words sort it) (places words at)) is
@@ -274,7 +300,8 @@ module _ (g : Syntax) (words : List Word) (program : AreOfProgram words) where
     child_back : {place : Option (ℕ × ℕ)} {sort from past : ℕ} {shape : Shape} → Child g words place sort from past shape
         → back (value_of g.prods words sort shape) (places words from) ≡ (shape, places words past)
     child_back (stands_leaf place sort at own shape leaf fits is) = leaf_back sort at own shape leaf is
-    child_back (stands_wild place sort at shape wild is) = absurd (no_wild_at words at program wild)
+    child_back (stands_wild place sort at shape wild named is) = absurd (no_wild_at words at program wild)
+    child_back (stands_token place sort at shape asked is) = absurd (no_place_at words at sort program asked)
     child_back (stands_reading place sort from past p production shape reads at fits may takes) = any_sort_back g.prods words sort shape (places words from) ∙ reads_back reads
     child_back (stands_nothing place sort at shape k empty is) = absurd (no_word_at words at sort_k EmptyList program refl empty)
     child_back (stands_sequence place sort from at first second shapes shape k rules opens parts closes is) =

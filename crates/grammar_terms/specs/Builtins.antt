@@ -1,5 +1,5 @@
 -- The builtin productions of a grammar for rules.
-use Rattle.std.specs.Prelude.{ℕ, ◌+◌, ◌-◌, Bool, true, false, ◌&&◌, nat_lt, nat_le, cond, max, fold, List, [], ◌∷◌, ◌++◌, map, take, length, codes, Option, None, slice_get}
+use Rattle.std.specs.Prelude.{ℕ, ◌+◌, ◌-◌, Bool, true, false, ◌&&◌, nat_lt, nat_le, cond, max, fold, List, [], ◌∷◌, ◌++◌, map, take, drop, length, codes, Option, None, slice_get}
 use Rattle.std.specs.List.{range_with_len}
 use Rattle.k_terms.specs.Sorts.{sort_kitem, sort_int, sort_bool, sort_string, sort_map, sort_list}
 use Rattle.k_terms.specs.declared.op.Op.{Op}
@@ -159,6 +159,10 @@ with_builtins g = record {
   prods = declared_prods g ++ builtin_prods (next_sentence (declared_prods g)) (next_group (declared_prods g)) (length g.names);
   declared = g.declared;
 }
+
+-- the productions that are operators, where the grammar is one for rules
+abbrev pub operators_in : Syntax → List Production
+operators_in g = take (length operators) (drop g.declared g.prods)
 
 -- the operator that a production is, by its number
 abbrev pub operator_of : Syntax → ℕ → Option Op

@@ -1,5 +1,6 @@
 pub mod Grammar
 pub mod Edges
+pub mod Places
 pub mod Reading
 pub mod Cuts
 pub mod Values

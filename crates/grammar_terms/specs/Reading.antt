@@ -10,6 +10,7 @@ use Rattle.grammar_terms.specs.declared.word.WordKind.{WordKind}
 use Rattle.grammar_terms.specs.declared.word.WordKind.TheVariants.{Terminal as TerminalWord, Literal, Variable, Wild, EmptyList}
 use Rattle.grammar_terms.specs.Grammar.{Syntax, production_at, order_of, is_list, step_from}
 use Rattle.grammar_terms.specs.Edges.{permitted}
+use Rattle.grammar_terms.specs.Places.{token_place_at}
 
 -- the token at a place is this terminal
 abbrev pub IsTerminalAt : List Word → ℕ → List ℕ → Type 0
@@ -141,13 +142,15 @@ mutual
         → Elements g words p sort separator from past (first ∷ shapes ++ shape ∷ [])
 
   -- What stands at a place of a sort: a token of a sort that fits, or what a production of such a sort reads; a variable
-  -- without a sort at each place; at one of sort K also a token that is the empty sequence, and in a rule two or more parts in
-  -- parentheses. The place is a production's number and the number of its item, from 0; there is none where the tokens are a
+  -- without a sort at each place of a sort that has a name; at one of sort K also a token that is the empty sequence, and in a
+  -- rule two or more parts in parentheses; and at a place that asks for one token such a one. The place is a production's number and the number of its item, from 0; there is none where the tokens are a
   -- whole text or a part of a sequence. The shape of a sequence is that of a list, with 0 for the number of its production.
   pub data Child (g : Syntax) (words : List Word) : Option (ℕ × ℕ) → ℕ → ℕ → ℕ → Shape → Type 0 where
     stands_leaf : (place : Option (ℕ × ℕ)) (sort at own : ℕ) (shape : Shape) → IsLeafAt words at own → Fits g own sort
         → shape ≡ Leaf at → Child g words place sort at (at + 1) shape
-    stands_wild : (place : Option (ℕ × ℕ)) (sort at : ℕ) (shape : Shape) → is_wild_at words at ≡ true → shape ≡ Leaf at → Child g words place sort at (at + 1) shape
+    stands_wild : (place : Option (ℕ × ℕ)) (sort at : ℕ) (shape : Shape) → is_wild_at words at ≡ true → sort < length g.names → shape ≡ Leaf at
+        → Child g words place sort at (at + 1) shape
+    stands_token : (place : Option (ℕ × ℕ)) (sort at : ℕ) (shape : Shape) → token_place_at words at ≡ Some sort → shape ≡ Leaf at → Child g words place sort at (at + 1) shape
     stands_reading : (place : Option (ℕ × ℕ)) (sort from past p : ℕ) (production : Production) (shape : Shape) → Reads g words p from past shape
         → production_at g.prods p ≡ Some production → Fits g production.sort sort → may_stand g place p → takes sort shape ≡ true
         → Child g words place sort from past shape

@@ -91,16 +91,16 @@ is_plain_value (MapV' _ _) = false
 is_plain_value (ListV' _ _) = false
 is_plain_value (FreezerV' _ _ _ _) = false
 
--- a token of a program: a terminal, a literal or an identifier
-abbrev pub is_of_program : WordKind → Bool
-is_of_program (TerminalWord text) = true
-is_of_program (Literal value) = is_plain_value value
-is_of_program Variable = false
-is_of_program Wild = false
-is_of_program EmptyList = false
+-- a token of a program: a terminal that no place asks for, a literal or an identifier
+abbrev pub is_of_program : WordKind → ℕ → Bool
+is_of_program (TerminalWord text) sort = sort == 0
+is_of_program (Literal value) sort = is_plain_value value
+is_of_program Variable sort = false
+is_of_program Wild sort = false
+is_of_program EmptyList sort = false
 
 abbrev pub AreOfProgram : List Word → Type 0
-AreOfProgram words = AllByRecursion (λ word. is_of_program word.kind ≡ true) words
+AreOfProgram words = AllByRecursion (λ word. is_of_program word.kind word.sort ≡ true) words
 
 -- A value is a reading of the tokens at a sort.
 pub record IsRead (g : Syntax) (sort : ℕ) (words : List Word) (value : Value) : Type 0 where

@@ -1,12 +1,13 @@
 //! Copies of productions.
-ghost use Rattle.std.specs.Prelude.{◌≡◌, IfOk};
+ghost use Rattle.std.specs.Prelude.{◌≡◌, ◌++◌, IfOk};
 
 use crate::production::{Part, Production};
 use k_terms::{Many, Memory, Numbers, Text, copy_text};
 use production_reader::{Attrs, Form, Strict};
 use std::alloc::Global;
 
-fn copy_part(alloc: Global, part: &Part) -> Result<Part, Memory>
+/// A copy of an item.
+pub fn copy_part(alloc: Global, part: &Part) -> Result<Part, Memory>
     ensures { IfOk result (λ it. it ≡ part.now) }
 {
     Ok(match part {
@@ -53,7 +54,8 @@ fn copy_strict(alloc: Global, strict: &Strict) -> Result<Strict, Memory>
     })
 }
 
-fn copy_attrs(alloc: Global, attrs: &Attrs) -> Result<Attrs, Memory>
+/// A copy of attributes.
+pub fn copy_attrs(alloc: Global, attrs: &Attrs) -> Result<Attrs, Memory>
     ensures { IfOk result (λ it. it ≡ attrs.now) }
 {
     Ok(Attrs {
@@ -88,6 +90,20 @@ pub(crate) fn copy_prods(alloc: Global, prods: &[Production]) -> Result<Vec<Prod
         copies.push(copy_production(alloc, production)?)?;
     }
     Ok(copies)
+}
+
+/// Adds copies of productions to others.
+pub(crate) fn add_copies(
+    alloc: Global,
+    more: &[Production],
+    prods: &mut Vec<Production>,
+) -> Result<(), Memory>
+    ensures { IfOk result (λ _. prods.new.items ≡ prods.old.items ++ more.now) }
+{
+    for production in more {
+        prods.push(copy_production(alloc, production)?)?;
+    }
+    Ok(())
 }
 
 /// Copies of the names of sorts.

@@ -1,11 +1,11 @@
-ghost use Rattle.std.specs.Prelude.{◌≡◌, ◌↔◌, ◌≤◌, ◌^◌, length, map, IfOk, IsTrue, option_copied, option_map, slice_get, Some, None};
+ghost use Rattle.std.specs.Prelude.{◌≡◌, ◌↔◌, ◌<◌, ◌≤◌, ◌^◌, ◌++◌, length, map, IfOk, IsTrue, option_copied, option_map, slice_get, Some, None};
 ghost use Rattle.grammar_terms.specs.Grammar.{label_of, order_of, production_at, sort_number as number_of_sort};
-ghost use Rattle.grammar_terms.specs.Builtins.{with_builtins, operator_of};
+ghost use Rattle.grammar_terms.specs.Builtins.{with_builtins, operator_of, operators_in};
 ghost use Rattle.grammar_terms.specs.Reading.{IsForRules};
 ghost use Rattle.grammar_terms.specs.Edges.{permitted as may_stand};
 
-use crate::builtin::operator_at;
-use crate::copies::copy_names;
+use crate::builtin::{OPERATORS, operator_at};
+use crate::copies::{add_copies, copy_names, copy_prods};
 use crate::edges::permits;
 use crate::labels::labels_of;
 use crate::production::Production;
@@ -73,6 +73,30 @@ impl Grammar {
         })
     }
 
+    /// The grammar with further productions behind all others. They are no declared ones, so the order of sorts stays.
+    pub fn with_more(&self, alloc: Global, more: &[Production]) -> Result<Grammar, Memory>
+        ensures { IfOk result (λ grammar. grammar ≡ record { names = self.now.names; prods = self.now.prods ++ more.now; declared = self.now.declared }) }
+    {
+        let names = copy_names(alloc, self.names.as_slice())?;
+        let mut prods = copy_prods(alloc, self.prods.as_slice())?;
+        add_copies(alloc, more, &mut prods)?;
+        let labels = labels_of(alloc, names.as_slice(), prods.as_slice())?;
+        Ok(Grammar {
+            declared: self.declared,
+            sorts: self.own_order(alloc)?,
+            names,
+            prods: Many::from_vec(prods),
+            labels,
+        })
+    }
+
+    /// The order of the sorts once more.
+    fn own_order(&self, alloc: Global) -> Result<Sorts, Memory>
+        ensures { IfOk result (λ sorts. sorts ≡ order_of self.now) }
+    {
+        order_by_prods(alloc, self.prods.as_slice().split_at(self.declared).0)
+    }
+
     /// Whether there are builtin productions behind the declared ones.
     pub fn is_for_rules(&self) -> bool
         ensures { IsTrue result ↔ IsForRules self.now }
@@ -88,6 +112,17 @@ impl Grammar {
             operator_at(prod as usize - 1 - self.declared)
         } else {
             None
+        }
+    }
+
+    /// The productions that are operators, in the order of `Op`; none where the grammar is of programs.
+    pub fn operator_prods(&self) -> &[Production]
+        ensures { result.now ≡ operators_in self.now }
+    {
+        let builtin = self.prods.as_slice().split_at(self.declared).1;
+        match builtin.split_at_checked(OPERATORS.len()) {
+            Some((operators, _)) => operators,
+            None => builtin,
         }
     }
 
@@ -166,6 +201,20 @@ impl Grammar {
             }
         }
         None
+    }
+
+    /// Whether a sort has a name.
+    pub fn is_named(&self, sort: u32) -> bool
+        ensures { IsTrue result ↔ sort < length self.now.names }
+    {
+        (sort as usize) < self.names.len()
+    }
+
+    /// How many sorts have names.
+    pub fn count_sorts(&self) -> usize
+        ensures { result ≡ length self.now.names }
+    {
+        self.names.len()
     }
 
     /// The name of a sort, where there is such a one.

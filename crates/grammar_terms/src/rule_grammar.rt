@@ -17,7 +17,7 @@ fn number_behind(number: u32, more: u32) -> Result<u32, Memory>
 }
 
 /// The first sentence behind those of productions.
-fn next_sentence(prods: &[Production]) -> Result<u32, Memory>
+pub fn next_sentence(prods: &[Production]) -> Result<u32, Memory>
     ensures { IfOk result (λ next. next ≡ sentence_behind prods.now) }
 {
     let mut next: u32 = 0;
@@ -28,7 +28,7 @@ fn next_sentence(prods: &[Production]) -> Result<u32, Memory>
 }
 
 /// The first group behind those of productions.
-fn next_group(prods: &[Production]) -> Result<u32, Memory>
+pub fn next_group(prods: &[Production]) -> Result<u32, Memory>
     ensures { IfOk result (λ next. next ≡ group_behind prods.now) }
 {
     let mut next: u32 = 0;

@@ -20,7 +20,8 @@ pub enum WordKind {
 pub struct Word {
     /// Its kind.
     pub kind: WordKind,
-    /// The sort of a literal, an identifier or a variable; that of an empty list, and K of an empty sequence; else 0.
+    /// The sort of a literal, an identifier or a variable; that of an empty list, and K of an empty sequence. Of a terminal the
+    /// number of the places that ask for it, or 0 where there are none; else 0.
     pub sort: u32,
     /// The place of its first byte in the text.
     pub start: usize,

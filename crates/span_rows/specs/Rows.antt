@@ -1,5 +1,5 @@
 -- Rows of the table, and how one comes from others.
-use Rattle.std.specs.Prelude.{◌≡◌, ◌⊎◌, ℕ, Bool, true, false, cond, ◌==◌, List, [], ◌∷◌, ◌++◌, codes, Option, Some, None}
+use Rattle.std.specs.Prelude.{◌≡◌, ◌⊎◌, ℕ, ◌<◌, Bool, true, false, cond, ◌==◌, List, [], ◌∷◌, ◌++◌, length, codes, Option, Some, None}
 use Rattle.k_terms.specs.Sorts.{sort_k, sort_kitem}
 use Rattle.production_reader.specs.declared.prod.Form.TheVariants.{UserList}
 use Rattle.grammar_terms.specs.declared.production.Production.{Production}
@@ -7,13 +7,14 @@ use Rattle.grammar_terms.specs.declared.word.Word.{Word}
 use Rattle.grammar_terms.specs.declared.word.WordKind.TheVariants.{Variable}
 use Rattle.grammar_terms.specs.Cuts.{Has}
 use Rattle.grammar_terms.specs.Grammar.{Syntax, production_at}
+use Rattle.grammar_terms.specs.Places.{wild_place}
 use Rattle.grammar_terms.specs.Reading.{IsTerminalAt, IsWordAt, Fits, item_sort, may_stand}
 use Rattle.span_rows.specs.declared.row.Class.{Class}
 use Rattle.span_rows.specs.declared.row.Class.TheVariants.{Lone, Wild as WildClass, Other}
 use Rattle.span_rows.specs.declared.row.Held.{Held}
 use Rattle.span_rows.specs.declared.row.Held.TheVariants.{Nothing, More}
 use Rattle.span_rows.specs.declared.row.Key.{Key}
-use Rattle.span_rows.specs.declared.row.Key.TheVariants.{Front, Whole, Token, Wild, Sequence}
+use Rattle.span_rows.specs.declared.row.Key.TheVariants.{Front, Whole, Token, Wild, Place, Sequence}
 use Rattle.span_rows.specs.declared.row.Row.{Row}
 use Rattle.span_rows.specs.declared.sign.Sign.{Sign}
 use Rattle.span_rows.specs.declared.sign.Sign.TheVariants.{Open, Leaf as LeafSign, Items as ItemsSign, ItemsAnd}
@@ -149,8 +150,13 @@ abbrev pub Stands : Syntax → Option (ℕ × ℕ) → ℕ → Key → Type 0
 Stands g place sort (Front p count held) = ⊥
 Stands g place sort (Whole p class) = IsFitting g place sort p class
 Stands g place sort (Token own) = Fits g own sort
-Stands g place sort Wild = Unit {0}
+Stands g place sort Wild = sort < length g.names
+Stands g place sort (Place number) = number ≡ sort
 Stands g place sort Sequence = sort ≡ sort_k
+
+-- the class of a token that stands at a place that asks for one
+abbrev pub place_class : ℕ → Class
+place_class number = cond (number == wild_place) WildClass Other
 
 -- the class of the shape that a row tells of
 abbrev pub key_class : Key → Class
@@ -158,6 +164,7 @@ key_class (Front p count held) = Other
 key_class (Whole p class) = class
 key_class (Token own) = Other
 key_class Wild = WildClass
+key_class (Place number) = place_class number
 key_class Sequence = Other
 
 -- the next item is a sort, and another row may stand at its place

@@ -1,15 +1,16 @@
 -- What a token makes alone.
-use Rattle.std.specs.Prelude.{◌≡◌, ◌⊎◌, ℕ, true, List, [], ◌∷◌, codes}
+use Rattle.std.specs.Prelude.{◌≡◌, ◌⊎◌, ℕ, true, List, [], ◌∷◌, codes, Some}
 use Rattle.k_terms.specs.Sorts.{sort_k}
 use Rattle.production_reader.specs.declared.prod.Form.TheVariants.{UserList}
 use Rattle.grammar_terms.specs.declared.production.Production.{Production}
 use Rattle.grammar_terms.specs.declared.word.Word.{Word}
 use Rattle.grammar_terms.specs.declared.word.WordKind.TheVariants.{EmptyList}
 use Rattle.grammar_terms.specs.Grammar.{Syntax}
+use Rattle.grammar_terms.specs.Places.{token_place_at}
 use Rattle.grammar_terms.specs.Reading.{IsForRules, IsLeafAt, IsTerminalAt, IsWordAt, is_wild_at}
 use Rattle.span_rows.specs.declared.row.Class.TheVariants.{Other}
 use Rattle.span_rows.specs.declared.row.Held.TheVariants.{Nothing}
-use Rattle.span_rows.specs.declared.row.Key.TheVariants.{Front, Whole, Token, Wild, Sequence}
+use Rattle.span_rows.specs.declared.row.Key.TheVariants.{Front, Whole, Token, Wild, Place, Sequence}
 use Rattle.span_rows.specs.declared.row.Row.{Row}
 use Rattle.span_rows.specs.declared.sign.Sign.TheVariants.{Open, Leaf as LeafSign, Items as ItemsSign}
 use Rattle.span_rows.specs.Steps.{is_read}
@@ -45,11 +46,18 @@ pub record IsOpening (g : Syntax) (words : List Word) (at : ℕ) (made : Row) : 
   pub stands : IsTerminalAt words at (codes "(")
   pub is : made ≡ row (Front 0 0 Nothing) []
 
+-- a place of a production may ask for it
+pub record IsPlaceToken (words : List Word) (at : ℕ) (made : Row) : Type 0 where
+  pub number : ℕ
+  pub asked : token_place_at words at ≡ Some number
+  pub is : made ≡ row (Place number) (LeafSign at ∷ [])
+
 -- what the token at a place makes alone
 abbrev pub IsToken : Syntax → List Word → ℕ → Row → Type 0
 IsToken g words at made =
     IsLeafToken words at made
-    ⊎ (IsWildToken words at made ⊎ (IsOfSome g (IsEmptyListOf words at) made ⊎ (IsNothingToken words at made ⊎ IsOpening g words at made)))
+    ⊎ (IsWildToken words at made
+    ⊎ (IsOfSome g (IsEmptyListOf words at) made ⊎ (IsNothingToken words at made ⊎ (IsOpening g words at made ⊎ IsPlaceToken words at made))))
 
 -- a span is one token, which makes this
 abbrev pub IsTokenOver : Syntax → List Word → ℕ → ℕ → Row → Type 0

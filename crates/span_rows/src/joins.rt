@@ -2,7 +2,7 @@
 ghost use Rattle.std.specs.Prelude.{◌≡◌, ◌↔◌, IfOk, IsTrue};
 ghost use Rattle.grammar_terms.specs.Reading.{Fits, item_sort as sort_of_item, may_stand as stands_by};
 ghost use Rattle.span_rows.specs.declared.row.Key.TheVariants.{Front as FrontKey};
-ghost use Rattle.span_rows.specs.Rows.{Adds, Stands, IsFitting, is_no_lone as no_lone, takes_class, key_class as class_of_key, Extends, Joins, Grows, IsJoin, IsMade};
+ghost use Rattle.span_rows.specs.Rows.{Adds, Stands, IsFitting, is_no_lone as no_lone, takes_class, key_class as class_of_key, place_class as class_of_place, Extends, Joins, Grows, IsJoin, IsMade};
 ghost use Rattle.span_rows.specs.Slots.{IsSlot};
 
 use crate::row::{Class, Held, Key, Row};
@@ -10,7 +10,7 @@ use crate::rows::add;
 use crate::sign::joined_code;
 use crate::slot::{Slot, slot_of};
 use crate::steps::held_with;
-use grammar_terms::Grammar;
+use grammar_terms::{Grammar, WILD_PLACE};
 use k_terms::{Memory, sort};
 use std::alloc::Global;
 
@@ -91,8 +91,20 @@ pub fn stands(grammar: &Grammar, place: Option<(u32, u32)>, sort: u32, key: &Key
         Key::Front(..) => false,
         Key::Whole(prod, class) => is_fitting(grammar, place, sort, prod, class),
         Key::Token(own) => fits(grammar, own, sort),
-        Key::Wild => true,
+        Key::Wild => grammar.is_named(sort),
+        Key::Place(number) => number == sort as u64,
         Key::Sequence => sort == sort::K,
+    }
+}
+
+/// The class of a token that stands at a place that asks for one.
+fn place_class(number: u64) -> Class
+    ensures { result ≡ class_of_place number }
+{
+    if number == WILD_PLACE as u64 {
+        Class::Wild
+    } else {
+        Class::Other
     }
 }
 
@@ -105,6 +117,7 @@ fn key_class(key: &Key) -> Class
         Key::Whole(_, class) => class,
         Key::Token(_) => Class::Other,
         Key::Wild => Class::Wild,
+        Key::Place(number) => place_class(number),
         Key::Sequence => Class::Other,
     }
 }

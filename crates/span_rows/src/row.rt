@@ -37,6 +37,8 @@ pub enum Key {
     Token(u32),
     /// It is one token, a variable without a sort.
     Wild,
+    /// It is one token, for which the places of a number ask.
+    Place(u64),
     /// It is a sequence: the empty one, or parts in parentheses.
     Sequence,
 }

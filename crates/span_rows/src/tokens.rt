@@ -3,7 +3,7 @@ ghost use Rattle.std.specs.Prelude.{ℕ, IfOk, IsFalse};
 ghost use Rattle.grammar_terms.specs.declared.word.WordKind.TheVariants.{EmptyList as EmptyKind};
 ghost use Rattle.grammar_terms.specs.Reading.{IsWordAt};
 ghost use Rattle.span_rows.specs.Rows.{Adds, IsOfSome};
-ghost use Rattle.span_rows.specs.Tokens.{IsLeafToken, IsWildToken, IsEmptyListOf, IsNothingToken, IsOpening, IsToken, IsTokenOver};
+ghost use Rattle.span_rows.specs.Tokens.{IsLeafToken, IsWildToken, IsEmptyListOf, IsNothingToken, IsOpening, IsPlaceToken, IsToken, IsTokenOver};
 
 use crate::row::{Class, Held, Key, Row};
 use crate::rows::add;
@@ -11,6 +11,7 @@ use crate::sign::{Sign, enclosed_code};
 use crate::steps::{is_read, one_more};
 use grammar_terms::{
     Grammar, Production, Word, is_empty, is_empty_at, is_leaf, is_terminal_at, is_wild_at,
+    token_place_at,
 };
 use k_terms::{Many, Memory, sort};
 use production_reader::Form;
@@ -137,6 +138,19 @@ fn add_opening(
     Ok(())
 }
 
+/// Adds the row of a token for which a place of a production may ask.
+fn add_place(alloc: Global, tokens: &[Word], at: usize, rows: &mut Vec<Row>) -> Result<(), Memory>
+    ensures { IfOk result (λ _. Adds (IsPlaceToken tokens.now at) rows.old.items rows.new.items) }
+{
+    let Some(number) = token_place_at(tokens, at) else {
+        return Ok(());
+    };
+    let key = Key::Place(number);
+    let code = Many::from_vec(Vec::from_slice(alloc, &[Sign::Leaf(at)])?);
+    add(rows, Row { key, code })?;
+    Ok(())
+}
+
 /// Adds what the token at a place makes alone.
 fn add_alone(
     alloc: Global,
@@ -152,6 +166,7 @@ fn add_alone(
     add_empty_lists(alloc, grammar, tokens, at, rows)?;
     add_nothing(alloc, tokens, at, rows)?;
     add_opening(alloc, grammar, tokens, at, rows)?;
+    add_place(alloc, tokens, at, rows)?;
     Ok(())
 }
 

@@ -1,5 +1,5 @@
 -- The code of a shape tells the shape.
-use Rattle.std.proofs.Common.{ℕ, ◌≡◌, Bool, true, false, true≢false, cond, List, [], ◌∷◌, ◌++◌, Option, Some, None, refl, sym, ap, ◌∙◌, append_assoc}
+use Rattle.std.proofs.Common.{ℕ, ◌≡◌, Bool, true, false, true≢false, cond, List, [], ◌∷◌, ◌++◌, Option, Some, None, refl, sym, ap, ◌∙◌, append_assoc, arith, slice_get}
 use Rattle.std.proofs.lemmas.List.{append-nil}
 use mathlib.Core.Former.{Count, arity, this}
 use denote.Hole.Carrier.{out, roll}
@@ -9,9 +9,11 @@ use Rattle.grammar_terms.specs.declared.shape.Shape.TheBlock.{hidden-the_row-Sha
 use Rattle.grammar_terms.specs.declared.word.Word.{Word}
 use Rattle.grammar_terms.specs.declared.word.WordKind.{WordKind}
 use Rattle.grammar_terms.specs.declared.word.WordKind.TheVariants.{Terminal as TerminalWord, Literal, Variable, Wild as WildWord, EmptyList}
+use Rattle.grammar_terms.specs.Places.{wild_place, dot_place, variable_place, empty_place, is_of_terminal, place_by, token_place, token_place_at}
 use Rattle.grammar_terms.specs.Reading.{is_leaf, is_wild, is_wild_at, is_wild_leaf, is_wild_alone, is_lone, is_single, takes, IsLeafAt, IsWordAt}
 use Rattle.k_terms.specs.Sorts.{sort_kitem}
-use Rattle.std.specs.Prelude.{◌==◌}
+use Rattle.std.specs.Prelude.{◌==◌, ◌-◌}
+use Rattle.std.proofs.lemmas.Bool.Decides.{nat_tests}
 use Rattle.grammar_terms.specs.Reading.{item_sort}
 use Rattle.span_rows.specs.declared.row.Class.{Class}
 use Rattle.span_rows.specs.declared.row.Class.TheVariants.{Lone, Wild, Other}
@@ -19,7 +21,7 @@ use Rattle.span_rows.specs.declared.row.Held.TheVariants.{One}
 use Rattle.span_rows.specs.declared.sign.Sign.{Sign}
 use Rattle.span_rows.specs.declared.sign.Sign.TheVariants.{Open, Leaf as LeafSign, Node as NodeSign, Items as ItemsSign, ItemsAnd}
 use Rattle.span_table.specs.Codes.{items_sign, code_of, row_code, codes_of, read_back}
-use Rattle.span_rows.specs.Rows.{is_no_lone, takes_class}
+use Rattle.span_rows.specs.Rows.{is_no_lone, takes_class, place_class}
 use Rattle.span_rows.specs.Steps.{class_in, held_of, list_of}
 
 row_code_is : {n : Count} (r : Row_of-Shape n) → row_code r ≡ codes_of (items-the_row-Shape n r)
@@ -94,6 +96,56 @@ leaf_class words at own leaf = class_in-Leaf words at ∙ ap (λ b. cond b Wild 
 pub variable_class : (words : List Word) (at sort : ℕ) → IsWordAt words at Variable sort → class_in words (Leaf at) ≡ Other
 variable_class words at sort word =
     class_in-Leaf words at ∙ ap (λ b. cond b Wild Other) (ap (λ it. elim it [ None ↦ false | Some other ↦ is_wild other.kind ]) word.1 ∙ ap is_wild word.2)
+
+no_number : (number : ℕ) → None ≡ Some number → ⊥
+no_number number same = cc
+
+some_number : (one other : ℕ) → Some one ≡ Some other → one ≡ other
+some_number one other same = cc
+
+apart_variable : (sort number : ℕ) → variable_place sort ≡ number → (number == wild_place) ≡ false
+apart_variable sort number is = grind (arith, nat_tests)
+
+apart_empty : (sort number : ℕ) → empty_place sort ≡ number → (number == wild_place) ≡ false
+apart_empty sort number is = grind (arith, nat_tests)
+
+apart_dot : (number : ℕ) → dot_place ≡ number → (number == wild_place) ≡ false
+apart_dot number is = grind (arith, nat_tests)
+
+same_wild : (number : ℕ) → wild_place ≡ number → (number == wild_place) ≡ true
+same_wild number is = grind (arith, nat_tests)
+
+apart_by : (none one : Bool) (sort number : ℕ) → cond none None (cond one (Some dot_place) (Some (empty_place sort))) ≡ Some number → (number == wild_place) ≡ false
+apart_by true one sort number is = absurd (no_number number is)
+apart_by false true sort number is = apart_dot number (some_number dot_place number is)
+apart_by false false sort number is = apart_empty sort number (some_number (empty_place sort) number is)
+
+apart_terminal : (number : ℕ) → is_of_terminal number ≡ true → (number == wild_place) ≡ false
+apart_terminal number is = grind (arith, nat_tests)
+
+terminal_by : (asked : Bool) (number place : ℕ) → is_of_terminal number ≡ asked → cond asked (Some number) None ≡ Some place → (place == wild_place) ≡ false
+terminal_by true number place asked is = ap (λ it. it == wild_place) (sym (some_number number place is)) ∙ apart_terminal number asked
+terminal_by false number place asked is = absurd (no_number place is)
+
+-- a token is a variable without a sort where its places are
+wild_by : (kind : WordKind) (sort bytes number : ℕ) → place_by kind sort bytes ≡ Some number → (number == wild_place) ≡ is_wild kind
+wild_by (TerminalWord text) sort bytes number is = terminal_by (is_of_terminal sort) sort number refl is
+wild_by (Literal value) sort bytes number is = absurd (no_number number is)
+wild_by Variable sort bytes number is = apart_variable sort number (some_number (variable_place sort) number is)
+wild_by WildWord sort bytes number is = same_wild number (some_number wild_place number is)
+wild_by EmptyList sort bytes number is = apart_by (bytes == 0) (bytes == 1) sort number is
+
+wild_asked : (words : List Word) (at number : ℕ) → token_place_at words at ≡ Some number → (number == wild_place) ≡ is_wild_at words at
+wild_asked words at number asked = elim (slice_get words at) as (λ it. it ≡ slice_get words at → (number == wild_place) ≡ is_wild_at words at) [
+  | None ↦ λ e. absurd (no_number number (ap (λ it. elim it [ None ↦ None | Some word ↦ token_place word ]) e ∙ asked))
+  | Some word ↦ λ e.
+      wild_by word.kind word.sort (word.end - word.start) number (ap (λ it. elim it [ None ↦ None | Some other ↦ token_place other ]) e ∙ asked)
+      ∙ ap (λ it. elim it [ None ↦ false | Some other ↦ is_wild other.kind ]) e
+] refl
+
+-- the class of a token that some places ask for
+pub asked_class : (words : List Word) (at number : ℕ) → token_place_at words at ≡ Some number → class_in words (Leaf at) ≡ place_class number
+asked_class words at number asked = class_in-Leaf words at ∙ ap (λ b. cond b Wild Other) (sym (wild_asked words at number asked))
 
 pub wild_class : (words : List Word) (at : ℕ) → is_wild_at words at ≡ true → class_in words (Leaf at) ≡ Wild
 wild_class words at wild = class_in-Leaf words at ∙ ap (λ b. cond b Wild Other) wild

@@ -11,6 +11,7 @@ use Rattle.std.proofs.lemmas.Option.{slice_get_within, slice_get_cases}
 use Rattle.grammar_terms.specs.declared.word.Word.{Word}
 use Rattle.grammar_terms.specs.declared.word.WordKind.{WordKind}
 use Rattle.grammar_terms.specs.Cuts.{Has}
+use Rattle.grammar_terms.specs.Places.{token_place, token_place_at}
 use Rattle.grammar_terms.specs.Reading.{IsWordAt, is_wild, is_wild_at}
 use Rattle.grammar_terms.specs.Grammar.{Syntax}
 use Rattle.span_rows.specs.declared.row.Row.{Row}
@@ -202,6 +203,15 @@ wild_within words at wild = elim (slice_get_cases words at).1 [
   | inr past ↦ absurd (true≢false (sym wild ∙ ap (λ it. elim it [ None ↦ false | Some word ↦ is_wild word.kind ]) past.1))
 ]
 
+no_number : (number : ℕ) → None ≡ Some number → ⊥
+no_number number same = cc
+
+place_within : (words : List Word) (at number : ℕ) → token_place_at words at ≡ Some number → at < length words
+place_within words at number asked = elim (slice_get_cases words at).1 [
+  | inl here ↦ here.1
+  | inr past ↦ absurd (no_number number (sym (ap (λ it. elim it [ None ↦ None | Some word ↦ token_place word ]) past.1) ∙ asked))
+]
+
 word_within : (words : List Word) (at : ℕ) (kind : WordKind) (sort : ℕ) → IsWordAt words at kind sort → at < length words
 word_within words at kind sort word = slice_get_within words at word.0 word.1
 
@@ -218,7 +228,8 @@ token_within g words at made (inl e) = slice_get_within words at e.leaf.0 e.leaf
 token_within g words at made (inr (inl e)) = wild_within words at e.wild
 token_within g words at made (inr (inr (inl e))) = word_within words at _ _ e.makes.word
 token_within g words at made (inr (inr (inr (inl e)))) = word_within words at _ _ e.word
-token_within g words at made (inr (inr (inr (inr e)))) = option_within words at _ e.stands
+token_within g words at made (inr (inr (inr (inr (inl e))))) = option_within words at _ e.stands
+token_within g words at made (inr (inr (inr (inr (inr e))))) = place_within words at e.number e.asked
 
 module _ (g : Syntax) (words : List Word) (empty : List Row) (columns : List (List (List Row))) (span : IsEmptySpan g empty) (full : AreFullColumns g words empty columns (length words)) where
   span_full : (from past : ℕ) → from < past → past ≤ length columns

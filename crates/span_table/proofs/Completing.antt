@@ -11,13 +11,13 @@ use Rattle.grammar_terms.specs.declared.shape.Shape.{Shape, Leaf, Node, Items}
 use Rattle.grammar_terms.specs.declared.word.Word.{Word}
 use Rattle.grammar_terms.specs.declared.word.WordKind.TheVariants.{Variable}
 use Rattle.grammar_terms.specs.Grammar.{Syntax, production_at, is_list, step_from, lone_sort}
-use Rattle.grammar_terms.specs.Reading.{Reads, reads_plain, reads_bracket, reads_list, reads_rest, reads_empty, Parts, no_item, terminal_item, sort_item, Elements, no_element, first_element, next_element, Child, stands_leaf, stands_wild, stands_reading, stands_nothing, stands_sequence, Sequence as AreParts, one_part, next_part, Joins as IsPart, joins_item, joins_variable, IsForRules, IsPlain, IsListOf, IsBetween, IsTerminalAt, IsWordAt}
+use Rattle.grammar_terms.specs.Reading.{Reads, reads_plain, reads_bracket, reads_list, reads_rest, reads_empty, Parts, no_item, terminal_item, sort_item, Elements, no_element, first_element, next_element, Child, stands_leaf, stands_wild, stands_token, stands_reading, stands_nothing, stands_sequence, Sequence as AreParts, one_part, next_part, Joins as IsPart, joins_item, joins_variable, IsForRules, IsPlain, IsListOf, IsBetween, IsTerminalAt, IsWordAt}
 use Rattle.span_rows.specs.declared.row.Class.{Class}
 use Rattle.span_rows.specs.declared.row.Class.TheVariants.{Other}
 use Rattle.span_rows.specs.declared.row.Held.{Held}
 use Rattle.span_rows.specs.declared.row.Held.TheVariants.{Nothing, One, More}
 use Rattle.span_rows.specs.declared.row.Key.{Key}
-use Rattle.span_rows.specs.declared.row.Key.TheVariants.{Front, Whole, Token, Wild, Sequence}
+use Rattle.span_rows.specs.declared.row.Key.TheVariants.{Front, Whole, Token, Wild, Place, Sequence}
 use Rattle.span_rows.specs.declared.row.Row.{Row}
 use Rattle.span_rows.specs.declared.sign.Sign.{Sign}
 use Rattle.span_rows.specs.declared.sign.Sign.TheVariants.{Open, Leaf as LeafSign, Node as NodeSign, Items as ItemsSign, ItemsAnd}
@@ -27,7 +27,7 @@ use Rattle.span_rows.specs.Rows.{row, Kept, Stands, key_class}
 use Rattle.span_table.specs.Table.{IsFullTable}
 use Rattle.span_rows.proofs.Adding.{kept_step}
 use Rattle.span_table.proofs.Finishing.{plain_count}
-use Rattle.span_table.proofs.Coding.{code_of-Leaf, code_of-Node, code_of-Items, class_in-Node, class_in-nothing, class_in-several, class_in-rest, leaf_class, variable_class, wild_class, takes_is, list_held, codes_of-one, codes_of-more}
+use Rattle.span_table.proofs.Coding.{code_of-Leaf, code_of-Node, code_of-Items, class_in-Node, class_in-nothing, class_in-several, class_in-rest, leaf_class, variable_class, wild_class, asked_class, takes_is, list_held, codes_of-one, codes_of-more}
 use Rattle.span_table.proofs.Sounding.{held_of-more}
 
 -- ---- codes are told apart
@@ -211,7 +211,7 @@ module _ (g : Syntax) (words : List Word) (rows : ℕ → ℕ → List Row) (ful
   -- ---- sequences
 
   kept_opened : (at : ℕ) → IsForRules g → IsTerminalAt words at (codes "(") → Kept (rows at (at + 1)) (row (Front 0 0 Nothing) [])
-  kept_opened at rules opens = full.tokens at (row (Front 0 0 Nothing) []) (inr (inr (inr (inr (record { rules = rules; stands = opens; is = refl })))))
+  kept_opened at rules opens = full.tokens at (row (Front 0 0 Nothing) []) (inr (inr (inr (inr (inl (record { rules = rules; stands = opens; is = refl }))))))
 
   kept_arrow : (from at : ℕ) (held : Held) (code : List Sign) → IsTerminalAt words at (codes "~>") → Kept (rows from at) (row (Front 0 1 held) code)
       → Kept (rows from (at + 1)) (row (Front 0 0 held) code)
@@ -343,12 +343,19 @@ module _ (g : Syntax) (words : List Word) (rows : ℕ → ℕ → List Row) (ful
       kept = same_kept (rows at (at + 1)) (Token own) (Token own) (LeafSign at ∷ []) (code_of shape) refl (sym (code_of-Leaf at) ∙ ap code_of (sym is))
           (full.tokens at (row (Token own) (LeafSign at ∷ [])) (inl (record { own = own; leaf = leaf; is = refl })));
     }
-    child_kept _ _ _ _ _ (stands_wild place sort at shape wild is) = record {
+    child_kept _ _ _ _ _ (stands_wild place sort at shape wild named is) = record {
       key = Wild;
-      stands = tt;
+      stands = named;
       class_is = sym (wild_class words at wild) ∙ ap (class_in words) (sym is);
       kept = same_kept (rows at (at + 1)) Wild Wild (LeafSign at ∷ []) (code_of shape) refl (sym (code_of-Leaf at) ∙ ap code_of (sym is))
           (full.tokens at (row Wild (LeafSign at ∷ [])) (inr (inl (record { wild = wild; is = refl }))));
+    }
+    child_kept _ _ _ _ _ (stands_token place sort at shape asked is) = record {
+      key = Place sort;
+      stands = refl;
+      class_is = sym (asked_class words at sort asked) ∙ ap (class_in words) (sym is);
+      kept = same_kept (rows at (at + 1)) (Place sort) (Place sort) (LeafSign at ∷ []) (code_of shape) refl (sym (code_of-Leaf at) ∙ ap code_of (sym is))
+          (full.tokens at (row (Place sort) (LeafSign at ∷ [])) (inr (inr (inr (inr (inr (record { number = sort; asked = asked; is = refl })))))));
     }
     child_kept _ _ _ _ _ (stands_reading place sort from past p production shape reads is_there fits permitted taken) = record {
       key = Whole p (class_in words shape);

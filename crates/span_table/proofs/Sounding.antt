@@ -5,13 +5,13 @@ use Rattle.grammar_terms.specs.declared.production.Production.{Production}
 use Rattle.grammar_terms.specs.declared.shape.Shape.{Shape, Leaf, Items}
 use Rattle.grammar_terms.specs.declared.word.Word.{Word}
 use Rattle.grammar_terms.specs.Grammar.{Syntax, production_at}
-use Rattle.grammar_terms.specs.Reading.{Child, stands_leaf, stands_wild, stands_reading, stands_nothing, stands_sequence, Sequence as AreParts, one_part, next_part, Joins as IsPart, joins_item, joins_variable, IsForRules, IsTerminalAt}
+use Rattle.grammar_terms.specs.Reading.{Child, stands_leaf, stands_wild, stands_token, stands_reading, stands_nothing, stands_sequence, Sequence as AreParts, one_part, next_part, Joins as IsPart, joins_item, joins_variable, IsForRules, IsTerminalAt}
 use Rattle.span_rows.specs.declared.row.Class.{Class}
 use Rattle.span_rows.specs.declared.row.Class.TheVariants.{Other}
 use Rattle.span_rows.specs.declared.row.Held.{Held}
 use Rattle.span_rows.specs.declared.row.Held.TheVariants.{Nothing, One, More}
 use Rattle.span_rows.specs.declared.row.Key.{Key}
-use Rattle.span_rows.specs.declared.row.Key.TheVariants.{Front, Whole, Token, Wild, Sequence}
+use Rattle.span_rows.specs.declared.row.Key.TheVariants.{Front, Whole, Token, Wild, Place, Sequence}
 use Rattle.span_rows.specs.declared.row.Row.{Row}
 use Rattle.span_rows.specs.declared.sign.Sign.{Sign}
 use Rattle.span_rows.specs.declared.sign.Sign.TheVariants.{Open, Leaf as LeafSign, Items as ItemsSign, ItemsAnd}
@@ -21,7 +21,7 @@ use Rattle.span_rows.specs.Rows.{row, Stands, takes_class, key_class, Extends, G
 use Rattle.span_rows.specs.Tokens.{IsToken}
 use Rattle.span_table.specs.Meaning.{Goes, begins, passes, extends, IsFrontRow, Begun, IsBegunRow, IsWholeRow, IsSequenceRow, Says, AreSound}
 use Rattle.span_table.proofs.Finishing.{whole_ends, rest_ends, empty_list_row}
-use Rattle.span_table.proofs.Coding.{code_of-Leaf, code_of-Items, codes_of-more, leaf_class, variable_class, wild_class, takes_is, class_in-nothing, class_in-several}
+use Rattle.span_table.proofs.Coding.{code_of-Leaf, code_of-Items, codes_of-more, leaf_class, variable_class, wild_class, asked_class, takes_is, class_in-nothing, class_in-several}
 
 some_same : {X : Type 0} (x y : X) → Some x ≡ Some y → x ≡ y
 some_same x y same = cc
@@ -63,8 +63,14 @@ child_of g words place sort from past (Token own) code says stands = record {
 }
 child_of g words place sort from past Wild code says stands = record {
   shape = Leaf from;
-  child = subst (λ at. Child g words place sort from at (Leaf from)) (sym says.past_is) (stands_wild place sort from (Leaf from) says.wild refl);
+  child = subst (λ at. Child g words place sort from at (Leaf from)) (sym says.past_is) (stands_wild place sort from (Leaf from) says.wild stands refl);
   class_is = sym (wild_class words from says.wild);
+  code_is = says.code_is ∙ sym (code_of-Leaf from);
+}
+child_of g words place sort from past (Place number) code says stands = record {
+  shape = Leaf from;
+  child = subst (λ at. Child g words place sort from at (Leaf from)) (sym says.past_is) (stands_token place sort from (Leaf from) (says.asked ∙ ap Some stands) refl);
+  class_is = sym (asked_class words from number says.asked);
   code_is = says.code_is ∙ sym (code_of-Leaf from);
 }
 child_of g words place sort from past Sequence code says stands = record {
@@ -238,7 +244,8 @@ says_token g words at made (inr (inr (inr (inl e)))) =
       class_is = sym (class_in-nothing words 0);
       code_is = sym (code_of-Items 0 [] None);
     })
-says_token g words at made (inr (inr (inr (inr e)))) =
+says_token g words at made (inr (inr (inr (inr (inr e))))) = says_row g words at (at + 1) made (row (Place e.number) (LeafSign at ∷ [])) e.is (record { asked = e.asked; past_is = refl; code_is = refl })
+says_token g words at made (inr (inr (inr (inr (inl e))))) =
     says_row g words at (at + 1) made (row (Front 0 0 Nothing) []) e.is (inr (record {
       shapes = [];
       none = refl;

@@ -6,12 +6,13 @@ use Rattle.grammar_terms.specs.declared.shape.Shape.{Shape}
 use Rattle.grammar_terms.specs.declared.word.Word.{Word}
 use Rattle.grammar_terms.specs.Cuts.{Has}
 use Rattle.grammar_terms.specs.Grammar.{Syntax, production_at}
+use Rattle.grammar_terms.specs.Places.{token_place_at}
 use Rattle.grammar_terms.specs.Reading.{Reads, Child, Sequence as AreParts, IsForRules, IsLeafAt, IsTerminalAt, is_wild_at}
 use Rattle.span_rows.specs.declared.row.Class.{Class}
 use Rattle.span_rows.specs.declared.row.Class.TheVariants.{Other}
 use Rattle.span_rows.specs.declared.row.Held.{Held}
 use Rattle.span_rows.specs.declared.row.Key.{Key}
-use Rattle.span_rows.specs.declared.row.Key.TheVariants.{Front, Whole, Token, Wild, Sequence}
+use Rattle.span_rows.specs.declared.row.Key.TheVariants.{Front, Whole, Token, Wild, Place, Sequence}
 use Rattle.span_rows.specs.declared.row.Row.{Row}
 use Rattle.span_rows.specs.declared.sign.Sign.{Sign}
 use Rattle.span_rows.specs.declared.sign.Sign.TheVariants.{Leaf as LeafSign}
@@ -80,6 +81,12 @@ pub record IsWildRow (words : List Word) (from past : ℕ) (code : List Sign) : 
   pub past_is : past ≡ from + 1
   pub code_is : code ≡ LeafSign from ∷ []
 
+-- a span is a token that some places ask for
+pub record IsPlaceRow (words : List Word) (from past number : ℕ) (code : List Sign) : Type 0 where
+  pub asked : token_place_at words from ≡ Some number
+  pub past_is : past ≡ from + 1
+  pub code_is : code ≡ LeafSign from ∷ []
+
 -- a span is a sequence, which stands at each place of sort K
 pub record IsSequenceRow (g : Syntax) (words : List Word) (from past : ℕ) (code : List Sign) : Type 0 where
   pub shape : Shape
@@ -92,6 +99,7 @@ Says g words from past (Front p count held) code = IsFrontRow g words from past 
 Says g words from past (Whole p class) code = IsWholeRow g words from past p class code
 Says g words from past (Token own) code = IsTokenRow words from past own code
 Says g words from past Wild code = IsWildRow words from past code
+Says g words from past (Place number) code = IsPlaceRow words from past number code
 Says g words from past Sequence code = IsSequenceRow g words from past code
 
 -- each of some rows holds of a span

@@ -1,7 +1,10 @@
 ghost use Rattle.std.specs.Prelude.{◌≤◌, IfOk, length};
 
 use crate::all_readings;
-use grammar_terms::{Grammar, Part, Production, Readings, Shape, Word, WordKind};
+use grammar_terms::{
+    CLOSE_PLACE, DOT_PLACE, EMPTY_PLACE, Grammar, OPEN_PLACE, Part, Production, REWRITE_PLACE,
+    Readings, Shape, VARIABLE_PLACE, WILD_PLACE, Word, WordKind,
+};
 use k_terms::{Many, Memory, Text, Value, sort};
 use production_reader::{Attrs, Form, Strict};
 use std::alloc::Global;
@@ -124,8 +127,19 @@ fn word(kind: WordKind, sort: u32) -> Word {
     }
 }
 
+/// An empty list, or the empty sequence, that is written with so many bytes.
+fn empty(sort: u32, bytes: usize) -> Word {
+    Word {
+        kind: WordKind::EmptyList,
+        sort,
+        start: 0,
+        end: bytes,
+    }
+}
+
 /// A digit is a number; `k`, `i`, `x` and `y` are variables of K, Int, Ints and Rows, `_` one without a sort, `e` the empty list
-/// of Ints and `.` the empty sequence; and some letters are longer terminals.
+/// of Ints, `.` the empty sequence and `:` the same with its sort; some letters are longer terminals, and places ask for `>`, `(`
+/// and `)`.
 fn word_of(alloc: Global, letter: u8) -> Result<Word, Memory> {
     Ok(match letter {
         b'1' => word(WordKind::Literal(Value::Int(1)), sort::INT),
@@ -134,8 +148,12 @@ fn word_of(alloc: Global, letter: u8) -> Result<Word, Memory> {
         b'x' => word(WordKind::Variable, INTS),
         b'y' => word(WordKind::Variable, ROWS),
         b'_' => word(WordKind::Wild, 0),
-        b'e' => word(WordKind::EmptyList, INTS),
-        b'.' => word(WordKind::EmptyList, sort::K),
+        b'e' => empty(INTS, 5),
+        b'.' => empty(sort::K, 1),
+        b':' => empty(sort::K, 2),
+        b'>' => word(WordKind::Terminal(text(alloc, b"=>")?), REWRITE_PLACE),
+        b'(' => word(WordKind::Terminal(text(alloc, b"(")?), OPEN_PLACE),
+        b')' => word(WordKind::Terminal(text(alloc, b")")?), CLOSE_PLACE),
         b'~' => word(WordKind::Terminal(text(alloc, b"~>")?), 0),
         b'*' => word(WordKind::Terminal(text(alloc, b"*Int")?), 0),
         b'+' => word(WordKind::Terminal(text(alloc, b"+Int")?), 0),
@@ -304,6 +322,39 @@ const OPERATORS: [Case; 7] = [
     (sort::BOOL, b"1=1=1", "none"),
     (sort::BOOL, b"1=(1=1)", "18( 0 18( 3 5 ) )"),
 ];
+
+/// Places that ask for one token.
+const PLACES: [Case; 21] = [
+    (WILD_PLACE, b"_", "0"),
+    (WILD_PLACE, b"k", "none"),
+    (WILD_PLACE, b"(_)", "none"),
+    (DOT_PLACE, b".", "0"),
+    (DOT_PLACE, b":", "none"),
+    (REWRITE_PLACE, b">", "0"),
+    (REWRITE_PLACE, b"(", "none"),
+    (OPEN_PLACE, b"(", "0"),
+    (OPEN_PLACE, b"+", "none"),
+    (CLOSE_PLACE, b")", "0"),
+    (CLOSE_PLACE, b">", "none"),
+    (EMPTY_PLACE, b":", "0"),
+    (EMPTY_PLACE, b".", "none"),
+    (EMPTY_PLACE, b"e", "none"),
+    (EMPTY_PLACE + 2 * INTS, b"e", "0"),
+    (VARIABLE_PLACE, b"k", "0"),
+    (VARIABLE_PLACE, b"i", "none"),
+    (VARIABLE_PLACE, b"_", "none"),
+    (VARIABLE_PLACE + 2 * INTS, b"x", "0"),
+    (VARIABLE_PLACE + 2 * INTS, b"1", "none"),
+    (ROWS + 1, b"_", "none"),
+];
+
+#[test]
+fn reads_places(rt: HostRuntime) -> Result<(), Fail> {
+    let alloc = rt.alloc();
+    let grammar = expressions(alloc, true)?.for_rules(alloc)?;
+    assert_eq!(rt; otherwise(alloc, &grammar, &PLACES)?.as_str(), "");
+    Ok(())
+}
 
 #[test]
 fn reads_programs(rt: HostRuntime) -> Result<(), Fail> {
