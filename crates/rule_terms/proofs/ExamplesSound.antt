@@ -1,13 +1,13 @@
 -- Which rules are sound, on closed rules, by computation.
-use Rattle.std.proofs.Common.{◌≡◌, ℕ, Bool, true, false, ◌==◌, List, [], ◌∷◌, refl, subst, arith}
+use Rattle.std.proofs.Common.{◌≡◌, ℕ, ◌<◌, Bool, true, false, ◌==◌, List, [], ◌∷◌, refl, subst, arith}
 use Rattle.std.proofs.lemmas.Bool.{eqb-true}
-use Rattle.std.specs.Prelude.{Some, None, Contains}
+use Rattle.std.specs.Prelude.{Some, None, Contains, codes}
 use Rattle.k_terms.specs.declared.op.Op.TheVariants.{SetKey}
-use Rattle.k_terms.specs.declared.value.Value.{Value, Map as Mapping}
+use Rattle.k_terms.specs.declared.value.Value.{Value, Node, Map as Mapping}
 use Rattle.k_terms.specs.Sorts.{SortOrder, Below, same, subsort}
 use Rattle.rule_terms.specs.declared.defs.Kind.{Kind}
 use Rattle.rule_terms.specs.declared.defs.Kind.TheVariants.{Cells as CellsKind, Seq as SeqKind, Map as MapKind, List as ListKind, One as OneKind}
-use Rattle.rule_terms.specs.declared.pattern.Pattern.{Pattern, Var, Lit, Node as NodeP, Apply}
+use Rattle.rule_terms.specs.declared.pattern.Pattern.{Pattern, Var, Lit, Node as NodeP, Freezer as FreezerP, Apply}
 use Rattle.rule_terms.specs.declared.pattern.Body.{Body, Seq, Map, Made}
 use Rattle.rule_terms.specs.declared.pattern.CellPat.{CellPat}
 use Rattle.rule_terms.specs.declared.rule.Origin.TheVariants.{Written}
@@ -25,10 +25,10 @@ use Rattle.rule_terms.proofs.Known.{has_known, row_has_known}
 use Rattle.rule_terms.proofs.Sounding.{is_sound, is_sound_rule, sound_rule, sound_definition}
 
 -- two sorts are the same: the test of the order of sorts that no definition refutes
-abbrev is_same_sort : ℕ → ℕ → Bool
+abbrev pub is_same_sort : ℕ → ℕ → Bool
 is_same_sort a b = a == b
 
-same_sort : (o : SortOrder) (a b : ℕ) → is_same_sort a b ≡ true → Below o a b
+pub same_sort : (o : SortOrder) (a b : ℕ) → is_same_sort a b ≡ true → Below o a b
 same_sort o a b e = subst (Below o a) (eqb-true a b e) (same a)
 
 language_passes : is_sound is_same_sort language ≡ true
@@ -58,7 +58,7 @@ assignments = record {
   sorts = imp_sorts;
   cells = shape [] None false CellsKind ∷ shape [] (Some 0) false SeqKind ∷ shape [] (Some 0) false MapKind ∷ [];
   rules = heat ∷ cool ∷ assign_number ∷ [];
-  labels = [];
+  labels = codes "_+_" ∷ codes "_=_;" ∷ [];
 }
 
 assignments_pass : is_sound is_same_sort assignments ≡ true
@@ -78,6 +78,66 @@ mark_twice = record { origin = Written 0; vars = 0 ∷ 9 ∷ 9 ∷ 9 ∷ 9 ∷ [
 mark_twice_is_unsound : ¬ IsSoundRule language mark_twice
 unfolding open_rules
 mark_twice_is_unsound sound = let f : false ≡ true = sound.cells.left_marks in cc
+
+-- ---- numbers that nothing has, a variable that nothing binds, and a whole sequence where an item stands
+
+-- the sequence of one thread, in which variable 0 is the rest
+abbrev of_sequence : List ℕ → List Pattern → List Pattern → Rule
+of_sequence sorts left right = record {
+  origin = Written 0;
+  vars = 0 ∷ 9 ∷ 9 ∷ 9 ∷ sorts;
+  left = with_memory (Seq left (Some 0)) (Map [] None) 1 2 3;
+  right = with_memory (Seq right (Some 0)) (Map [] None) 1 2 3;
+  when = [];
+}
+
+abbrev quit_ends : Rule
+quit_ends = of_sequence [] (NodeP 5 [] ∷ []) []
+
+quit_ends_is_sound : IsSoundRule language quit_ends
+unfolding open_rules has_known row_has_known
+quit_ends_is_sound = sound_rule is_same_sort language quit_ends (same_sort language.sorts) refl
+
+-- there are nine productions, and the numbers begin with 1
+no_production : ¬ IsSoundRule language (of_sequence [] (NodeP 10 [] ∷ []) [])
+unfolding open_rules
+no_production sound = let f : false ≡ true = sound.numbers.patterns in cc
+
+no_production_zero : ¬ IsSoundRule language (of_sequence [] (Lit (Node 1 (Node 0 [] ∷ [])) ∷ []) [])
+unfolding open_rules
+no_production_zero sound = let f : false ≡ true = sound.numbers.patterns in cc
+
+-- the hole of a production with one other argument is its first or its second
+no_hole : ¬ IsSoundRule language (of_sequence [] (FreezerP 2 3 (Lit name_x ∷ []) ∷ []) [])
+unfolding open_rules
+no_hole sound = let f : false ≡ true = sound.numbers.patterns in cc
+
+unbound_on_the_right : ¬ IsSoundRule language (of_sequence (10 ∷ []) (NodeP 5 [] ∷ []) (Var 4 ∷ []))
+unfolding open_rules
+unbound_on_the_right sound = let f : false ≡ true = sound.variables.bound 4 (omega arith) in cc
+
+undeclared_on_the_right : ¬ IsSoundRule language (of_sequence [] (NodeP 5 [] ∷ []) (Var 4 ∷ []))
+unfolding open_rules
+undeclared_on_the_right sound = let f : 4 < 4 = sound.variables.known 4 refl in absurd (omega (arith, f))
+
+-- a variable of sort K is the rest, or an argument, but no part of a sequence
+sequence_in_front : ¬ IsSoundRule language (of_sequence (0 ∷ []) (Var 4 ∷ []) [])
+unfolding open_rules
+sequence_in_front sound = let f : false ≡ true = sound.patterns.forms in cc
+
+sequence_as_key : ¬ IsSoundRule language (record {
+  origin = Written 0;
+  vars = 0 ∷ 9 ∷ 9 ∷ 9 ∷ 0 ∷ [];
+  left = with_memory (Seq [] (Some 0)) (Map ((Var 4, Lit (number 1)) ∷ []) None) 1 2 3;
+  right = with_memory (Seq [] (Some 0)) (Map ((Var 4, Lit (number 1)) ∷ []) None) 1 2 3;
+  when = [];
+})
+unfolding open_rules
+sequence_as_key sound = let f : false ≡ true = sound.patterns.forms in cc
+
+-- a definition has a label for each production
+unlabelled : ¬ IsSound (record { sorts = imp_sorts; cells = shape [] None false CellsKind ∷ []; rules = []; labels = [] })
+unlabelled sound = let f : 0 ≡ 2 = sound.labels in absurd (omega (arith, f))
 
 -- ---- a whole content that is made by a value, not by an entry put into a map
 abbrev no_map : Pattern

@@ -14,9 +14,11 @@ pub mod RightKinds
 pub mod Parted
 pub mod PatternParts
 pub mod BoundFormed
+pub mod SoundFacts
 pub mod Known
 pub mod Sounding
 pub mod ExamplesSound
+pub mod Sample
 pub mod RuleEquality
 pub mod BodyEquality
 pub mod EqualDefs

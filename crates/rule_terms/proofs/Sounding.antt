@@ -1,8 +1,8 @@
 -- A test that a rule is sound, and that a definition is. It takes a test of the order of sorts.
 use Rattle.std.proofs.Common.{◌≡◌, inl, inr, ℕ, zero, suc, ◌<◌, Bool, true, false, not, ◌==◌, ◌&&◌, List, ◌++◌, length, map, refl, sym, ap, subst, ◌∙◌, arith}
-use Rattle.std.proofs.lemmas.Bool.{eqb-true, eq-eqb, leb-true, cases_lt}
+use Rattle.std.proofs.lemmas.Bool.{eqb-true, eq-eqb, ltb-true, leb-true, cases_lt}
 use Rattle.std.proofs.lemmas.Option.{slice_get_within}
-use Rattle.std.specs.Prelude.{Option, Some, None, IsTrue, Contains, slice_get, is_none, nat_le}
+use Rattle.std.specs.Prelude.{Option, Some, None, IsTrue, Contains, slice_get, is_none, nat_lt, nat_le}
 use Rattle.std.specs.Option.{option_map}
 use Rattle.std.specs.List.{list_all}
 use Rattle.k_terms.specs.Sorts.{SortOrder, Below, sort_bag}
@@ -16,7 +16,8 @@ use Rattle.rule_terms.specs.Language.{Language}
 use Rattle.rule_terms.specs.Numbers.{all_different}
 use Rattle.rule_terms.specs.Patterns.{same_rest, cond_mentions}
 use Rattle.rule_terms.specs.Spots.{Spot, spots, new_spots, occurs_elsewhere}
-use Rattle.rule_terms.specs.Sound.{side_limit, cell_limit, is_placed_shape, IsSound, sort_of, is_body_of, has_formed_values, has_no_operator, has_whole_sequences, all_patterns, condition_test, is_made, has_one_form, cells_rest, body_mentions, side_mentions, conditions_mention, cell_of_mark, may_come_and_go, IsPlaced, IsSameCell, HasSoundCells, HasSoundVariables, HasSoundPatterns, IsSoundRule}
+use Rattle.rule_terms.specs.Sound.{side_limit, cell_limit, is_placed_shape, IsSound, sort_of, is_body_of, has_formed_values, has_no_operator, has_whole_sequences, all_patterns, condition_test, is_made, is_item, has_one_form, cells_rest, body_mentions, side_mentions, conditions_mention, cell_of_mark, may_come_and_go, IsPlaced, IsSameCell, HasSoundCells, HasSoundVariables, HasSoundPatterns, HasNumbersInRange, IsSoundRule}
+use Rattle.rule_terms.specs.InRange.{is_pattern_in_range, is_origin_in_range}
 use Rattle.rule_terms.proofs.Defined.{passes, both, one_of}
 use Rattle.rule_terms.proofs.NotBelow.{leads, led}
 use Rattle.rule_terms.proofs.Known.{body_has_known, cond_has_known, met, body_known, cond_known}
@@ -92,6 +93,13 @@ has_sound_patterns r =
     && list_all (λ (p : Spot). all_patterns (has_whole_sequences r.vars) p.body) (spots r.left ++ spots r.right)
     && list_all (condition_test (has_whole_sequences r.vars)) r.when
     && list_all (λ (p : Spot). has_one_form r.vars p.body) (spots r.left ++ spots r.right)
+    && list_all (condition_test (is_item r.vars)) r.when
+
+abbrev has_numbers_in_range : SortOrder → Rule → Bool
+has_numbers_in_range o r =
+    is_origin_in_range o r.origin
+    && list_all (λ (p : Spot). all_patterns (is_pattern_in_range o) p.body) (spots r.left ++ spots r.right)
+    && list_all (condition_test (is_pattern_in_range o)) r.when
 
 -- ---- what a passed test gives
 
@@ -180,12 +188,19 @@ variables r e =
 
 patterns : (r : Rule) → has_sound_patterns r ≡ true → HasSoundPatterns r
 patterns r e =
-    let six = both _ _ e in
+    let seven = both _ _ e in
+    let six = both _ _ seven.0 in
     let five = both _ _ six.0 in
     let four = both _ _ five.0 in
     let three = both _ _ four.0 in
     let two = both _ _ three.0 in
-    record { values = two.0; condition_values = two.1; no_operator = three.1; sequences = four.1; condition_sequences = five.1; forms = six.1 }
+    record { values = two.0; condition_values = two.1; no_operator = three.1; sequences = four.1; condition_sequences = five.1; forms = six.1; condition_forms = seven.1 }
+
+numbers : (o : SortOrder) (r : Rule) → has_numbers_in_range o r ≡ true → HasNumbersInRange o r
+numbers o r e =
+    let three = both _ _ e in
+    let two = both _ _ three.0 in
+    record { origin = two.0; patterns = two.1; conditions = three.1 }
 
 cells : (below : ℕ → ℕ → Bool) (d : Language) (r : Rule) → ((a b : ℕ) → below a b ≡ true → Below d.sorts a b) → has_sound_marks r ≡ true → has_sound_places below d r ≡ true → has_sound_counts d r ≡ true → HasSoundCells d r
 cells below d r sound marks places counts =
@@ -210,16 +225,17 @@ cells below d r sound marks places counts =
     }
 
 abbrev pub is_sound_rule : (ℕ → ℕ → Bool) → Language → Rule → Bool
-is_sound_rule below d r = has_sound_marks r && has_sound_places below d r && has_sound_counts d r && has_sound_variables r && has_sound_patterns r
+is_sound_rule below d r = has_sound_marks r && has_sound_places below d r && has_sound_counts d r && has_sound_variables r && has_sound_patterns r && has_numbers_in_range d.sorts r
 
 -- a rule that passes the test is sound
 pub sound_rule : (below : ℕ → ℕ → Bool) (d : Language) (r : Rule) → ((a b : ℕ) → below a b ≡ true → Below d.sorts a b) → is_sound_rule below d r ≡ true → IsSoundRule d r
 sound_rule below d r sound e =
-    let five = both _ _ e in
+    let six = both _ _ e in
+    let five = both _ _ six.0 in
     let four = both _ _ five.0 in
     let three = both _ _ four.0 in
     let two = both _ _ three.0 in
-    record { cells = cells below d r sound two.0 two.1 three.1; variables = variables r four.1; patterns = patterns r five.1 }
+    record { cells = cells below d r sound two.0 two.1 three.1; variables = variables r four.1; patterns = patterns r five.1; numbers = numbers d.sorts r six.1 }
 
 -- ---- a definition
 
@@ -228,8 +244,10 @@ is_placed_at shapes n = elim (slice_get shapes n) [ None ↦ false | Some shape 
 
 abbrev pub is_sound : (ℕ → ℕ → Bool) → Language → Bool
 is_sound below d =
-    nat_le (length d.cells) cell_limit
+    nat_lt 0 (length d.cells)
+    && nat_le (length d.cells) cell_limit
     && each_below (length d.cells) (is_placed_at d.cells)
+    && length d.labels == length d.sorts.productions
     && list_all (is_sound_rule below d) d.rules
 
 placed_at : (shapes : List CellShape) (n : ℕ) (shape : CellShape) → is_placed_at shapes n ≡ true → slice_get shapes n ≡ Some shape → is_placed_shape shapes n shape ≡ true
@@ -238,10 +256,14 @@ placed_at shapes n shape e is = ap (λ (o : Option CellShape). elim o [ None ↦
 -- a definition that passes the test is sound
 pub sound_definition : (below : ℕ → ℕ → Bool) (d : Language) → ((a b : ℕ) → below a b ≡ true → Below d.sorts a b) → is_sound below d ≡ true → IsSound d
 sound_definition below d sound e =
-    let three = both _ _ e in
+    let five = both _ _ e in
+    let four = both _ _ five.0 in
+    let three = both _ _ four.0 in
     let two = both _ _ three.0 in
     record {
-      few_cells = leb-true (length d.cells) cell_limit two.0;
-      tree = λ n shape is. placed_at d.cells n shape (each_is (length d.cells) (is_placed_at d.cells) two.1 n (slice_get_within d.cells n shape is)) is;
-      rules = λ r within. sound_rule below d r sound (passes (is_sound_rule below d) d.rules r three.1 within);
+      some_cell = ltb-true 0 (length d.cells) two.0;
+      few_cells = leb-true (length d.cells) cell_limit two.1;
+      tree = λ n shape is. placed_at d.cells n shape (each_is (length d.cells) (is_placed_at d.cells) three.1 n (slice_get_within d.cells n shape is)) is;
+      labels = eqb-true (length d.labels) (length d.sorts.productions) four.1;
+      rules = λ r within. sound_rule below d r sound (passes (is_sound_rule below d) d.rules r five.1 within);
     }

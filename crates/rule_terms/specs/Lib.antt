@@ -8,6 +8,7 @@ pub mod Patterns
 pub mod Open
 pub mod Numbers
 pub mod Spots
+pub mod InRange
 pub mod Sound
 pub mod Kinds
 pub mod Laws

@@ -18,6 +18,7 @@ use Rattle.rule_terms.specs.declared.rule.Rule.{Rule}
 use Rattle.rule_terms.specs.Language.{Language}
 use Rattle.rule_terms.specs.Patterns.{cond_mentions, body_rest, parts_mention, is_rest}
 use Rattle.rule_terms.specs.Numbers.{all_different}
+use Rattle.rule_terms.specs.InRange.{is_pattern_in_range, is_origin_in_range}
 use Rattle.rule_terms.specs.Spots.{Spot, spots, has_mark, new_spots, occurs_elsewhere}
 
 -- ---- the declared cells
@@ -127,7 +128,8 @@ abbrev pub is_sequence_variable : List ℕ → Pattern → Bool
 is_sequence_variable vars (Var x) = option_map_or (λ sort. sort == sort_k) (slice_get vars x) false
 is_sequence_variable vars _ = false
 
--- no part of a sequence in a pattern is a variable of sort K: such a one is a whole sequence or the rest of one
+-- No part of a sequence in a pattern, and no argument of an operator, is a variable of sort K: such a one is a whole
+-- sequence or the rest of one.
 unfoldable mutual
   pub has_whole_sequences : List ℕ → Pattern → Bool
   has_whole_sequences vars (Var _) = true
@@ -136,7 +138,7 @@ unfoldable mutual
   has_whole_sequences vars (Items' _ _ parts _) = row_has_whole_sequences vars parts
   has_whole_sequences vars (Seq' _ parts _) = row_has_whole_sequences vars parts && row_has_items vars parts
   has_whole_sequences vars (Freezer' _ _ _ parts) = row_has_whole_sequences vars parts
-  has_whole_sequences vars (Apply' _ _ parts) = row_has_whole_sequences vars parts
+  has_whole_sequences vars (Apply' _ _ parts) = row_has_whole_sequences vars parts && row_has_items vars parts
 
   pub row_has_whole_sequences : {n : _} → List ℕ → Row_of-Pattern n → Bool
   row_has_whole_sequences vars end_of-Pattern = true
@@ -164,11 +166,18 @@ abbrev pub is_made : Body → Bool
 is_made (Made _) = true
 is_made _ = false
 
--- no part of a sequence is a variable of sort K, and a list has no rest between members
+-- a list has no rest between members
+abbrev pub has_rest_at_end : Body → Bool
+has_rest_at_end (Listed (_ ∷ _) (Some _) (_ ∷ _)) = false
+has_rest_at_end _ = true
+
+-- a part of a content is an item: it is no variable of sort K
+abbrev pub is_item : List ℕ → Pattern → Bool
+is_item vars p = not (is_sequence_variable vars p)
+
+-- No part of a content is a variable of sort K, which may be the rest alone, and a list has no rest between members.
 abbrev pub has_one_form : List ℕ → Body → Bool
-has_one_form vars (Seq parts _) = list_all (λ p. not (is_sequence_variable vars p)) parts
-has_one_form vars (Listed (_ ∷ _) (Some _) (_ ∷ _)) = false
-has_one_form vars _ = true
+has_one_form vars body = has_rest_at_end body && all_patterns (is_item vars) body
 
 -- the rest of a body of cells
 abbrev pub cells_rest : Body → Option ℕ
@@ -237,7 +246,8 @@ pub record HasSoundVariables (r : Rule) : Type 0 where
   pub known : (x : ℕ) → IsTrue (side_mentions x (spots r.left ++ spots r.right) || conditions_mention x r.when) → x < length r.vars
   pub rests : (p : Spot) (x : ℕ) → Contains (spots r.left) p → cells_rest p.body ≡ Some x → (slice_get r.vars x ≡ Some sort_bag) × IsTrue (not (occurs_elsewhere r p.mark x))
 
--- the patterns of a rule
+-- The patterns of a rule: the keys of maps in values rise, no operator stands on the left, and whole sequences and rests
+-- stand where they may.
 pub record HasSoundPatterns (r : Rule) : Type 0 where
   pub values : IsTrue (list_all (λ (p : Spot). all_patterns has_formed_values p.body) (spots r.left ++ spots r.right))
   pub condition_values : IsTrue (list_all (condition_test has_formed_values) r.when)
@@ -245,14 +255,25 @@ pub record HasSoundPatterns (r : Rule) : Type 0 where
   pub sequences : IsTrue (list_all (λ (p : Spot). all_patterns (has_whole_sequences r.vars) p.body) (spots r.left ++ spots r.right))
   pub condition_sequences : IsTrue (list_all (condition_test (has_whole_sequences r.vars)) r.when)
   pub forms : IsTrue (list_all (λ (p : Spot). has_one_form r.vars p.body) (spots r.left ++ spots r.right))
+  pub condition_forms : IsTrue (list_all (condition_test (is_item r.vars)) r.when)
+
+-- The numbers of a rule, beside those of cells, variables and sorts: each is of a production that there is.
+pub record HasNumbersInRange (o : SortOrder) (r : Rule) : Type 0 where
+  pub origin : IsTrue (is_origin_in_range o r.origin)
+  pub patterns :
+      IsTrue (list_all (λ (p : Spot). all_patterns (is_pattern_in_range o) p.body) (spots r.left ++ spots r.right))
+  pub conditions : IsTrue (list_all (condition_test (is_pattern_in_range o)) r.when)
 
 pub record IsSoundRule (d : Language) (r : Rule) : Type 0 where
   pub cells : HasSoundCells d r
   pub variables : HasSoundVariables r
   pub patterns : HasSoundPatterns r
+  pub numbers : HasNumbersInRange d.sorts r
 
--- a sound definition
+-- a sound definition: there is a root, each production has its label, and each rule is sound
 pub record IsSound (d : Language) : Type 0 where
+  pub some_cell : 0 < length d.cells
   pub few_cells : length d.cells ≤ cell_limit
   pub tree : (n : ℕ) (shape : CellShape) → slice_get d.cells n ≡ Some shape → IsTrue (is_placed_shape d.cells n shape)
+  pub labels : length d.labels ≡ length d.sorts.productions
   pub rules : (r : Rule) → Contains d.rules r → IsSoundRule d r

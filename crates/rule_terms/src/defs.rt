@@ -1,6 +1,7 @@
 ghost use Rattle.std.specs.Prelude.{◌≡◌, ◌-◌, ◌==◌, cond, None, map, option_copied, slice_get};
 ghost use Rattle.std.specs.Arc.{arc_value};
 ghost use Rattle.rule_terms.specs.Language.{rule_at, label_at};
+ghost use Rattle.rule_terms.specs.Sound.{IsSound};
 
 use crate::rule::Rule;
 use k_terms::{Many, Sorts, Text};
@@ -27,8 +28,9 @@ pub struct CellShape {
     pub kind: Kind,
 }
 
-/// A definition of a language, as rewriting sees it: the order of its sorts, its declared cells from cell 0, its rules from
-/// rule 1, and the labels of its productions from production 1.
+/// A definition of a language, as rewriting sees it: the order of its sorts, its declared cells from cell 0, its rules
+/// from rule 1, and the labels of its productions from production 1. Each definition is sound: whoever writes one, or
+/// changes a field, has to prove it.
 #[derive(Debug, Drop)]
 pub struct Defs {
     pub sorts: Sorts,
@@ -41,6 +43,7 @@ impl Model for Defs {
     ghost use Rattle.std.specs.Prelude.{map};
     ghost use Rattle.std.specs.Arc.{arc_value};
     ghost use Rattle.rule_terms.specs.Language.{Language};
+    ghost use Rattle.rule_terms.specs.Sound.{IsSound};
     ghost use Rattle.std.specs.Coded.{codes};
     ghost use Rattle.rule_terms.specs.contracts.pattern.Pattern as pattern;
     ghost use Rattle.rule_terms.specs.contracts.pattern.Body as body;
@@ -50,16 +53,22 @@ impl Model for Defs {
 
     ghost coded = { Prim.hlevel (codes, pattern.the_row.coded, body.the_row.coded, cell_pat.the_row.coded) };
 
-    ghost view = { λ defs. record { sorts = defs.sorts; cells = defs.cells; rules = map arc_value defs.rules; labels = defs.labels } };
+    ghost view = { λ defs.
+        record { sorts = defs.sorts; cells = defs.cells; rules = map arc_value defs.rules; labels = defs.labels } };
+
+    ghost invariant = { λ defs.
+        IsSound record { sorts = defs.sorts; cells = defs.cells; rules = map arc_value defs.rules; labels = defs.labels } };
 }
 
 impl Defs {
+    /// The definition with these parts, which make a sound one.
     pub fn new(
         sorts: Sorts,
         cells: Many<CellShape>,
         rules: Many<Arc<Rule>>,
         labels: Many<Text>,
     ) -> Defs
+        requires { IsSound record { sorts = sorts; cells = cells; rules = map arc_value rules; labels = labels } }
         ensures { result ≡ record { sorts = sorts; cells = cells; rules = map arc_value rules; labels = labels } }
     {
         Defs {
@@ -68,6 +77,13 @@ impl Defs {
             rules,
             labels,
         }
+    }
+
+    /// Does nothing: its contract is what every definition keeps.
+    pub fn sound(&self)
+        ensures { IsSound self.now }
+    {
+        let _ = &self.rules;
     }
 
     pub fn sorts(&self) -> &Sorts

@@ -1,3 +1,8 @@
+ghost use Rattle.std.specs.Prelude.{◌≡◌, ◌∷◌, [], Some, IfOk};
+ghost use Rattle.rule_terms.specs.declared.pattern.Pattern.{Var, Node};
+ghost use Rattle.rule_terms.specs.declared.pattern.Body.{Seq as SeqBody};
+ghost use Rattle.rule_terms.specs.declared.rule.Origin.TheVariants.{Written};
+
 use crate::{
     Body, CellPat, CellShape, Cond, Defs, Kind, Origin, Pattern, Rule, copy_rule, equal_defs,
     equal_rule, left_cells, new_cells,
@@ -58,12 +63,46 @@ fn rule(alloc: Global, production: u32, sort: u32) -> Result<Rule, Memory> {
     })
 }
 
-/// A definition of one rule, with a cell of this name, these steps of its sorts, and this label.
+/// The front of the one cell, with this part and a rest.
+fn side(alloc: Global, part: Pattern) -> Result<CellPat, Memory>
+    ensures { IfOk result (λ cell. cell ≡ record { cell = 0; mark = 0; body = SeqBody (part ∷ []) (Some 1) }) }
+{
+    let mut parts = Many::new(alloc);
+    parts.push(part)?;
+    Ok(CellPat {
+        cell: 0,
+        mark: 0,
+        body: Body::Seq(parts, Some(1)),
+    })
+}
+
+/// A rule at this byte that takes production 1 away from its argument.
+fn sample_rule(alloc: Global, at: usize) -> Result<Rule, Memory>
+    ensures { IfOk result (λ rule. rule ≡ record {
+      origin = Written at;
+      vars = 10 ∷ 0 ∷ [];
+      left = record { cell = 0; mark = 0; body = SeqBody (Node 1 (Var 0 ∷ []) ∷ []) (Some 1) };
+      right = record { cell = 0; mark = 0; body = SeqBody (Var 0 ∷ []) (Some 1) };
+      when = [];
+    }) }
+{
+    let mut arguments = Many::new(alloc);
+    arguments.push(Pattern::Var(0))?;
+    Ok(Rule {
+        origin: Origin::Written { at },
+        vars: Many::from_vec(Vec::from_slice(alloc, &[10, 0])?),
+        left: side(alloc, Pattern::Node(1, arguments))?,
+        right: side(alloc, Pattern::Var(0))?,
+        when: Many::new(alloc),
+    })
+}
+
+/// A definition of that rule, with a cell of this name, these steps of its sorts, and this label.
 fn defs(
     alloc: Global,
     steps: &[(u32, u32)],
     name: &[u8],
-    sort: u32,
+    at: usize,
     label: &[u8],
 ) -> Result<Defs, Memory> {
     let mut cells = Many::new(alloc);
@@ -71,10 +110,10 @@ fn defs(
         name: text(alloc, name)?,
         parent: None,
         many: false,
-        kind: Kind::One(3),
+        kind: Kind::Seq,
     })?;
     let mut rules = Many::new(alloc);
-    rules.push(Arc::new(alloc, rule(alloc, 4, sort)?)?)?;
+    rules.push(Arc::new(alloc, sample_rule(alloc, at)?)?)?;
     let mut labels = Many::new(alloc);
     labels.push(text(alloc, label)?)?;
     let sorts = Sorts::new(alloc, steps, &[10])?;
@@ -102,17 +141,33 @@ fn counts_cells(rt: HostRuntime) -> Result<(), Fail> {
 }
 
 #[test]
+fn makes_a_definition(rt: HostRuntime) -> Result<(), Fail> {
+    let made = defs(rt.alloc(), &[(3, 10)], b"k", 7, b"f")?;
+    assert_eq!(rt; made.cells().len(), 1);
+    assert_eq!(rt;
+        made.rule(1).map(|rule| rule.vars.as_slice().len()),
+        Some(2)
+    );
+    assert!(rt; made.rule(2).is_none());
+    assert_eq!(rt;
+        made.label(1).map(|label| label.as_slice()),
+        Some(b"f".as_slice())
+    );
+    Ok(())
+}
+
+#[test]
 fn compares_definitions(rt: HostRuntime) -> Result<(), Fail> {
-    let one = defs(rt.alloc(), &[(3, 10)], b"k", 2, b"_+_")?;
-    let cases: [(&[(u32, u32)], &[u8], u32, &[u8], bool); 5] = [
-        (&[(3, 10)], b"k", 2, b"_+_", true),
-        (&[(4, 10)], b"k", 2, b"_+_", false),
-        (&[(3, 10)], b"m", 2, b"_+_", false),
-        (&[(3, 10)], b"k", 3, b"_+_", false),
-        (&[(3, 10)], b"k", 2, b"_-_", false),
+    let one = defs(rt.alloc(), &[(3, 10)], b"k", 7, b"_+_")?;
+    let cases: [(&[(u32, u32)], &[u8], usize, &[u8], bool); 5] = [
+        (&[(3, 10)], b"k", 7, b"_+_", true),
+        (&[(4, 10)], b"k", 7, b"_+_", false),
+        (&[(3, 10)], b"m", 7, b"_+_", false),
+        (&[(3, 10)], b"k", 8, b"_+_", false),
+        (&[(3, 10)], b"k", 7, b"_-_", false),
     ];
-    for (steps, name, sort, label, want) in cases {
-        let other = defs(rt.alloc(), steps, name, sort, label)?;
+    for (steps, name, at, label, want) in cases {
+        let other = defs(rt.alloc(), steps, name, at, label)?;
         assert_eq!(rt; equal_defs(&one, &other), want);
     }
     Ok(())

@@ -9,4 +9,5 @@ pub mod Parts
 mod Terms
 mod Assembled
 mod Values
+pub mod SmallNumbers
 pub mod SmallIsSound

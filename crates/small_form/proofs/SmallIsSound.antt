@@ -2,7 +2,7 @@
 use Rattle.std.proofs.Common.{◌≡◌, ◌⊎◌, inl, inr, ℕ, zero, suc, ◌+◌, ◌<◌, ◌≤◌, Bool, true, false, not, ◌==◌, ◌||◌, List, [], ◌∷◌, ◌++◌, length, map, refl, sym, ap, subst, ◌∙◌, arith}
 use Rattle.std.proofs.lemmas.Bool.{eqb-true, eq-eqb, ltb-true, leb-true, cases_lt}
 use Rattle.std.proofs.lemmas.Option.{slice_get-get_or}
-use Rattle.std.proofs.lemmas.List.{get_or_append_left, get_or-replicate, length-replicate, length-append}
+use Rattle.std.proofs.lemmas.List.{get_or_append_left, get_or-replicate, length-replicate, length-append, length-map}
 use Rattle.std.proofs.lemmas.List.Folds.{list_any-append}
 use Rattle.std.proofs.lemmas.List.Elements.{All-contains, All-from_recursion}
 use Rattle.std.specs.Prelude.{Some, None, Contains, slice_get, replicate}
@@ -13,6 +13,7 @@ use Rattle.k_terms.specs.Sorts.{sort_k}
 use Rattle.rule_terms.specs.declared.defs.CellShape.{CellShape}
 use Rattle.rule_terms.specs.declared.pattern.Pattern.{Pattern, Var, Lit, Node', Items', Seq', Freezer', Apply', Row_of-Pattern, end_of-Pattern, more_of-Pattern}
 use Rattle.rule_terms.specs.declared.pattern.Body.{Seq as SeqBody}
+use Rattle.rule_terms.specs.Language.{Language}
 use Rattle.rule_terms.specs.Patterns.{mentions, row_mentions}
 use Rattle.rule_terms.specs.Spots.{Spot, spots, spots_in}
 use Rattle.rule_terms.specs.Sound.{side_limit, cell_limit, is_placed_shape, has_formed_values, row_has_formed_values, has_no_operator, row_has_no_operator, has_whole_sequences, row_has_whole_sequences, is_sequence_variable, IsPlaced, IsSameCell, cells_rest, body_mentions, side_mentions, HasSoundCells, HasSoundVariables, HasSoundPatterns, IsSoundRule, IsSound}
@@ -20,6 +21,7 @@ use Rattle.rule_terms.proofs.Defined.{both, joins, one_of, same_some}
 use Rattle.small_form.specs.declared.small.Production.{Production}
 use Rattle.small_form.specs.declared.small.SmallRule.{SmallRule}
 use Rattle.small_form.specs.declared.small.Small.{Small}
+use Rattle.small_form.proofs.SmallNumbers.{numbers_in_range}
 use Rattle.small_form.specs.Small.{IsSmall, IsSmallRule, is_term, row_is_term, arity_of, has_arity, row_length, variables_of, row_variables, numbers_from, first_sort, front, rule_of, cell_k, language_of}
 
 -- ---- the patterns
@@ -244,13 +246,15 @@ module _ (productions : List Production) (r : SmallRule) (small : IsSmallRule pr
         sequences = rw (left.2, right.2) refl;
         condition_sequences = refl;
         forms = rw (item productions n r.left small.left, item productions n r.right small.right) refl;
+        condition_forms = refl;
       }
 
-sound_rule : (d : Small) (r : SmallRule) → IsSmallRule d.productions r → IsSoundRule (language_of d) (rule_of r)
-sound_rule d r small = record {
+sound_rule : (d : Small) (r : SmallRule) → 0 < length d.productions → IsSmallRule d.productions r → IsSoundRule (language_of d) (rule_of r)
+sound_rule d r some small = record {
   cells = sound_cells d r;
   variables = sound_variables d.productions r small;
   patterns = sound_patterns d.productions r small;
+  numbers = numbers_in_range d.productions r small;
 }
 
 -- ---- a definition
@@ -259,16 +263,22 @@ one_cell : (n : ℕ) (shape : CellShape) → slice_get (cell_k ∷ []) n ≡ Som
 one_cell zero shape is = subst (λ s. is_placed_shape (cell_k ∷ []) zero s ≡ true) (same_some cell_k shape is) refl
 one_cell (suc n) shape is = cc
 
-rules_sound : (d : Small) (rules : List SmallRule) → AllByRecursion (IsSmallRule d.productions) rules → AllByRecursion (IsSoundRule (language_of d)) (map rule_of rules)
-rules_sound d [] all = tt
-rules_sound d (r ∷ rules) all = (sound_rule d r all.0, rules_sound d rules all.1)
+rules_sound : (d : Small) (rules : List SmallRule) → 0 < length d.productions → AllByRecursion (IsSmallRule d.productions) rules → AllByRecursion (IsSoundRule (language_of d)) (map rule_of rules)
+rules_sound d [] some all = tt
+rules_sound d (r ∷ rules) some all = (sound_rule d r some all.0, rules_sound d rules some all.1)
 
 -- a definition of the small form is sound
 pub small_is_sound : (d : Small) → IsSmall d → IsSound (language_of d)
 small_is_sound d small = record {
+  some_cell = omega arith;
   few_cells = leb-true 1 cell_limit refl;
   tree = one_cell;
+  labels = length-map d.productions (λ (p : Production). p.label) ∙ sym (length-replicate (length d.productions) first_sort);
   rules = λ r has.
-      let all = All-from_recursion (IsSoundRule (language_of d)) (map rule_of d.rules) (rules_sound d d.rules small.rules) in
+      let all = All-from_recursion (IsSoundRule (language_of d)) (map rule_of d.rules) (rules_sound d d.rules small.some small.rules) in
       All-contains (IsSoundRule (language_of d)) (map rule_of d.rules) r all has;
 }
+
+-- so is one that is equal to it
+pub sound_as : (d : Small) → IsSmall d → (made : Language) → made ≡ language_of d → IsSound made
+sound_as d small made is = subst IsSound (sym is) (small_is_sound d small)

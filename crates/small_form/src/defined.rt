@@ -94,8 +94,8 @@ fn cells(alloc: Global) -> Result<Many<CellShape>, Memory>
 
 /// The language that a definition of the small form defines.
 pub fn language(alloc: Global, definition: Small) -> Result<Defs, Memory>
+    requires { IsSmall definition }
     ensures ok { IfOk result (λ defs. defs ≡ language_of definition) }
-    ensures sound { IsSmall definition → IfOk result (λ defs. IsSound defs) }
 {
     let Small {
         name: _,

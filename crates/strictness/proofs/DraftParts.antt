@@ -14,7 +14,7 @@ use Rattle.rule_terms.specs.declared.pattern.Pattern.TheBlock.{hidden-the_row-Pa
 use Rattle.rule_terms.specs.declared.pattern.Body.{Seq}
 use Rattle.rule_terms.specs.declared.rule.Cond.TheVariants.{IsSort}
 use Rattle.rule_terms.specs.Patterns.{mentions, row_mentions, cond_mentions}
-use Rattle.rule_terms.specs.Sound.{has_formed_values, row_has_formed_values, has_no_operator, row_has_no_operator, has_whole_sequences, row_has_whole_sequences, is_sequence_variable, condition_test, body_mentions, conditions_mention}
+use Rattle.rule_terms.specs.Sound.{has_formed_values, row_has_formed_values, has_no_operator, row_has_no_operator, has_whole_sequences, row_has_whole_sequences, is_sequence_variable, is_item, condition_test, body_mentions, conditions_mention}
 use Rattle.rule_terms.proofs.Defined.{one_of}
 use Rattle.strictness.specs.Places.{is_whole, may_heat}
 use Rattle.strictness.specs.Drafts.{variables, others, sorts_of_variables, whole, pulled, earlier, when_heated, when_cooled}
@@ -260,10 +260,10 @@ module _ (sorts : List ℕ) (p : ℕ) where
     ]
 
     pub plain_heated : (vs : List ℕ) (attrs : Attrs) → ArePlainConditions vs (when_heated attrs place)
-    plain_heated vs attrs = record { values = earlier_all has_formed_values attrs; sequences = earlier_all (has_whole_sequences vs) attrs }
+    plain_heated vs attrs = record { values = earlier_all has_formed_values attrs; sequences = earlier_all (has_whole_sequences vs) attrs; forms = earlier_all (is_item vs) attrs }
 
     pub plain_cooled : (vs : List ℕ) → ArePlainConditions vs (when_cooled place)
-    plain_cooled vs = record { values = refl; sequences = refl }
+    plain_cooled vs = record { values = refl; sequences = refl; forms = refl }
 
     earlier_mention : (y : ℕ) (xs : List ℕ) → list_any (cond_mentions y) (map (λ z. IsSort z sort_kresult) xs) ≡ is_in y xs
     earlier_mention y [] = refl

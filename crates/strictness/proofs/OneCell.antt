@@ -5,6 +5,7 @@ use Rattle.std.proofs.lemmas.List.Elements.{All-contains, All-from_recursion}
 use Rattle.std.specs.Prelude.{Some, None, Contains}
 use Rattle.std.specs.Option.{option_map}
 use Rattle.std.specs.List.{list_all}
+use Rattle.k_terms.specs.Sorts.{SortOrder}
 use Rattle.rule_terms.specs.declared.pattern.Pattern.{Pattern}
 use Rattle.rule_terms.specs.declared.pattern.Body.{Seq}
 use Rattle.rule_terms.specs.declared.pattern.CellPat.{CellPat}
@@ -14,7 +15,8 @@ use Rattle.rule_terms.specs.declared.rule.Rule.{Rule}
 use Rattle.rule_terms.specs.declared.rule.Draft.{Draft}
 use Rattle.rule_terms.specs.Language.{Language}
 use Rattle.rule_terms.specs.Spots.{Spot, spots, spots_in}
-use Rattle.rule_terms.specs.Sound.{side_limit, is_body_of, has_formed_values, has_no_operator, has_whole_sequences, is_sequence_variable, condition_test, IsPlaced, IsSameCell, cells_rest, body_mentions, conditions_mention, HasSoundCells, HasSoundVariables, HasSoundPatterns, IsSoundRule}
+use Rattle.rule_terms.specs.InRange.{is_pattern_in_range, is_origin_in_range}
+use Rattle.rule_terms.specs.Sound.{side_limit, is_body_of, has_formed_values, has_no_operator, has_whole_sequences, is_sequence_variable, is_item, condition_test, IsPlaced, IsSameCell, cells_rest, body_mentions, conditions_mention, HasSoundCells, HasSoundVariables, HasSoundPatterns, HasNumbersInRange, IsSoundRule}
 use Rattle.rule_terms.proofs.Defined.{one_of}
 use Rattle.strictness.specs.Laws.{IsRoot}
 use Rattle.strictness.specs.SoundDrafts.{IsSoundDraft}
@@ -37,6 +39,14 @@ pub record ArePlain (vars : List ℕ) (parts : List Pattern) : Type 0 where
 pub record ArePlainConditions (vars : List ℕ) (when : List Cond) : Type 0 where
   pub values : list_all (condition_test has_formed_values) when ≡ true
   pub sequences : list_all (condition_test (has_whole_sequences vars)) when ≡ true
+  pub forms : list_all (condition_test (is_item vars)) when ≡ true
+
+-- numbers that may stand in a rule
+pub record AreInRange (o : SortOrder) (origin : Origin) (left right : List Pattern) (when : List Cond) : Type 0 where
+  pub of_origin : is_origin_in_range o origin ≡ true
+  pub on_left : list_all (is_pattern_in_range o) left ≡ true
+  pub on_right : list_all (is_pattern_in_range o) right ≡ true
+  pub conditions : list_all (condition_test (is_pattern_in_range o)) when ≡ true
 
 -- the variables of a rule: each stands on the left, and those that stand anywhere are declared
 pub record AreBound (vars : List ℕ) (rest : ℕ) (left right : List Pattern) (when : List Cond) : Type 0 where
@@ -118,16 +128,27 @@ sound_patterns origin cell vars rest left right when on_left on_right conditions
   sequences = rw (on_left.sequences, on_right.sequences) refl;
   condition_sequences = conditions.sequences;
   forms = rw (on_left.items, on_right.items) refl;
+  condition_forms = conditions.forms;
+}
+
+sound_numbers : (o : SortOrder) (origin : Origin) (cell : ℕ) (vars : List ℕ) (rest : ℕ) (left right : List Pattern) (when : List Cond) → AreInRange o origin left right when
+    → HasNumbersInRange o (one_cell_rule origin cell vars rest left right when)
+unfolding spots_in
+sound_numbers o origin cell vars rest left right when are = record {
+  origin = are.of_origin;
+  patterns = rw (are.on_left, are.on_right) refl;
+  conditions = are.conditions;
 }
 
 -- the rule is sound
 pub one_cell_sound : (d : Language) (origin : Origin) (cell : ℕ) (vars : List ℕ) (rest : ℕ) (left right : List Pattern) (when : List Cond) → IsRoot d cell
     → ArePlain vars left → ArePlain vars right → ArePlainConditions vars when → AreBound vars rest left right when
-    → IsSoundRule d (one_cell_rule origin cell vars rest left right when)
-one_cell_sound d origin cell vars rest left right when root on_left on_right conditions bound = record {
+    → AreInRange d.sorts origin left right when → IsSoundRule d (one_cell_rule origin cell vars rest left right when)
+one_cell_sound d origin cell vars rest left right when root on_left on_right conditions bound numbers = record {
   cells = sound_cells d cell root origin vars rest left right when;
   variables = sound_variables origin cell vars rest left right when bound;
   patterns = sound_patterns origin cell vars rest left right when on_left on_right conditions;
+  numbers = sound_numbers d.sorts origin cell vars rest left right when numbers;
 }
 
 -- ---- the draft
@@ -136,11 +157,11 @@ abbrev pub one_cell_of : Origin → ℕ → List ℕ → ℕ → List Pattern �
 one_cell_of origin cell vars rest left right when =
     record { origin = origin; vars = vars; left = cell_of cell rest left ∷ []; right = cell_of cell rest right ∷ []; when = when }
 
-pub one_cell_draft : (origin : Origin) (cell : ℕ) (vars : List ℕ) (rest : ℕ) (left right : List Pattern) (when : List Cond)
+pub one_cell_draft : (o : SortOrder) (origin : Origin) (cell : ℕ) (vars : List ℕ) (rest : ℕ) (left right : List Pattern) (when : List Cond)
     → ((more : List ℕ) → ArePlain (vars ++ more) left) → ((more : List ℕ) → ArePlain (vars ++ more) right) → ((more : List ℕ) → ArePlainConditions (vars ++ more) when)
-    → AreBound vars rest left right when → IsSoundDraft (one_cell_of origin cell vars rest left right when)
+    → AreBound vars rest left right when → AreInRange o origin left right when → IsSoundDraft o (one_cell_of origin cell vars rest left right when)
 unfolding spots_in spot_of
-one_cell_draft origin cell vars rest left right when on_left on_right conditions are =
+one_cell_draft o origin cell vars rest left right when on_left on_right conditions are numbers =
     let variables = sound_variables origin cell vars rest left right when are in
     record {
       left_marks = refl;
@@ -156,4 +177,8 @@ one_cell_draft origin cell vars rest left right when on_left on_right conditions
       sequences = λ more. rw ((on_left more).sequences, (on_right more).sequences) refl;
       condition_sequences = λ more. (conditions more).sequences;
       forms = λ more. rw ((on_left more).items, (on_right more).items) refl;
+      condition_forms = λ more. (conditions more).forms;
+      origin = numbers.of_origin;
+      numbers = rw (numbers.on_left, numbers.on_right) refl;
+      condition_numbers = numbers.conditions;
     }

@@ -1,7 +1,7 @@
 -- The laws of heating and cooling.
 use Rattle.std.specs.Prelude.{◌≡◌, ℕ, List, [], ◌∷◌, Contains, Some, None, slice_get}
 use Rattle.grammar_terms.specs.declared.production.Production.{Production}
-use Rattle.grammar_terms.specs.Grammar.{Syntax}
+use Rattle.grammar_terms.specs.Grammar.{Syntax, order_of}
 use Rattle.rule_terms.specs.declared.pattern.CellPat.{CellPat}
 use Rattle.rule_terms.specs.declared.rule.Draft.{Draft}
 use Rattle.rule_terms.specs.declared.rule.Rule.{Rule}
@@ -36,15 +36,17 @@ pub record IsRoot (d : Language) (k : ℕ) : Type 0 where
   pub alone : shape.parent ≡ None
   pub kind : shape.kind ≡ Seq
 
--- where the cell k is the root, the rules of heating and cooling are sound as they stand
+-- where the cell k is the root, the rules of heating and cooling are sound as they stand in a definition of the grammar
 abbrev pub AreSound : Type 0
 AreSound =
     (d : Language) (g : Syntax) (k : ℕ) (draft : Draft) (left right : CellPat)
-    → IsRoot d k → HaveNoBadPlace (declared_in g) → Contains (strict_drafts g k) draft
+    → IsRoot d k → d.sorts ≡ order_of g
+    → HaveNoBadPlace (declared_in g) → Contains (strict_drafts g k) draft
     → draft.left ≡ left ∷ [] → draft.right ≡ right ∷ [] → IsSoundRule d (rule_of draft left right)
 
 -- and they are fit to be completed to sound rules elsewhere
 abbrev pub AreSoundDrafts : Type 0
 AreSoundDrafts =
     (g : Syntax) (k : ℕ) (draft : Draft)
-    → HaveNoBadPlace (declared_in g) → Contains (strict_drafts g k) draft → IsSoundDraft draft
+    → HaveNoBadPlace (declared_in g) → Contains (strict_drafts g k) draft
+    → IsSoundDraft (order_of g) draft
