@@ -18,10 +18,11 @@ use Rattle.sorted_grammar.specs.declared.fault.SortFault.TheVariants.{TooMany, N
 use Rattle.sorted_grammar.specs.Sorting.{IsGrammar, IsFault as IsSortFault}
 use Rattle.program_tokens.specs.Base.{with_tokens}
 use Rattle.program_syntax.specs.declared.syntax.ProgramSyntax.{ProgramSyntax}
+use Rattle.program_syntax.specs.declared.syntax.Definition.{Definition}
 use Rattle.program_syntax.specs.declared.fault.SyntaxFault.{SyntaxFault}
 use Rattle.program_syntax.specs.declared.fault.SyntaxFault.TheVariants.{Lex, Module, Sort, NoCell, Memory}
 use Rattle.program_syntax.specs.Cells.{sort_of_program}
-use Rattle.program_syntax.specs.Syntaxes.{AreSentences, HasNoCell, IsSyntaxFault, IsLate, AreOnlySentences, IsOnlyFault, IsOnlySyntax, told_lex, told_module, told_sort}
+use Rattle.program_syntax.specs.Syntaxes.{AreSentences, HasNoCell, IsSyntaxFault, IsLate, AreOnlySentences, IsOnlyFault, IsOnlySyntax, IsOnlyDefinition, IsDefinition, told_lex, told_module, told_sort}
 
 -- a text without tokens
 pub lex_only : (text : List ℕ) (fault : LexFault) → IsLexFault text fault → IsOnlyFault text (Lex fault)
@@ -141,27 +142,43 @@ module _ (text : List ℕ) (tokens : List Token) (sentences : List Sentence) (al
       no_syntax = λ syntax h. none_some syntax.sort (sym no_sort ∙ sym (same_sort h.tokens h.sentences syntax.grammar h.are h.grammar).1 ∙ h.sort);
     }
 
-    pub syntax_only : (syntax : ProgramSyntax) → syntax.grammar ≡ g → sort_of_program g.names (lexemes text tokens) sentences ≡ Some syntax.sort → syntax.names ≡ with_tokens text [] tokens
-        → IsOnlySyntax text syntax
-    syntax_only syntax grammar sort names = record {
+    pub definition_only : (syntax : ProgramSyntax) → syntax.grammar ≡ g → sort_of_program g.names (lexemes text tokens) sentences ≡ Some syntax.sort → syntax.names ≡ with_tokens text [] tokens
+        → IsOnlyDefinition text (record { tokens = tokens; sentences = sentences; syntax = syntax })
+    definition_only syntax grammar sort names = record {
       is = record {
-        tokens = tokens;
-        sentences = sentences;
         are = all.are;
         grammar = subst (IsGrammar sentences) (sym grammar) is;
         sort = ap (λ (h : Syntax). sort_of_program h.names (lexemes text tokens) sentences) grammar ∙ sort;
         words = names;
       };
       only = λ other h.
-          let sorts = same_sort h.tokens h.sentences other.grammar h.are h.grammar in
-          let numbers : other.sort ≡ syntax.sort = some_same other.sort syntax.sort (sym h.sort ∙ sorts.1 ∙ sort) in
-          let words : other.names ≡ syntax.names = h.words ∙ ap (with_tokens text []) (all.only h.tokens h.sentences h.are).0 ∙ sym names in
-          λ i. record { grammar = (sorts.0 ∙ sym grammar) i; names = words i; sort = numbers i };
+          let sorts = same_sort other.tokens other.sentences other.syntax.grammar h.are h.grammar in
+          let same = all.only other.tokens other.sentences h.are in
+          let numbers : other.syntax.sort ≡ syntax.sort = some_same other.syntax.sort syntax.sort (sym h.sort ∙ sorts.1 ∙ sort) in
+          let words : other.syntax.names ≡ syntax.names = h.words ∙ ap (with_tokens text []) same.0 ∙ sym names in
+          λ i. record { tokens = same.0 i; sentences = same.1 i; syntax = record { grammar = (sorts.0 ∙ sym grammar) i; names = words i; sort = numbers i } };
       no_fault = λ fault h. no_cell (subst (IsSyntaxFault text) (only_cell fault h) h);
     }
       where
         no_cell : HasNoCell text → ⊥
         no_cell h = none_some syntax.sort (sym h.no_sort ∙ (same_sort h.tokens h.sentences h.g h.are h.grammar).1 ∙ sort)
+
+-- what the one definition of a text says of programs
+pub syntax_only : (text : List ℕ) (definition : Definition) → IsOnlyDefinition text definition → IsOnlySyntax text definition.syntax
+syntax_only text definition only = record {
+  is = record {
+    tokens = definition.tokens;
+    sentences = definition.sentences;
+    are = only.is.are;
+    grammar = only.is.grammar;
+    sort = only.is.sort;
+    words = only.is.words;
+  };
+  only = λ other h.
+      ap (λ (d : Definition). d.syntax) (only.only (record { tokens = h.tokens; sentences = h.sentences; syntax = other })
+      (record { are = h.are; grammar = h.grammar; sort = h.sort; words = h.words }));
+  no_fault = only.no_fault;
+}
 
 -- ---- what is told of a fault of a phase
 

@@ -16,6 +16,7 @@ use Rattle.grammar_terms.specs.Grammar.{Syntax}
 use Rattle.sorted_grammar.specs.Sorting.{IsGrammar, IsFault as IsSortFault}
 use Rattle.program_tokens.specs.Base.{with_tokens}
 use Rattle.program_syntax.specs.declared.syntax.ProgramSyntax.{ProgramSyntax}
+use Rattle.program_syntax.specs.declared.syntax.Definition.{Definition}
 use Rattle.program_syntax.specs.declared.fault.SyntaxFault.{SyntaxFault}
 use Rattle.program_syntax.specs.declared.fault.SyntaxFault.TheVariants.{Lex, Module, Sort, NoCell, Memory}
 use Rattle.program_syntax.specs.Cells.{sort_of_program}
@@ -35,6 +36,13 @@ pub record IsSyntax (text : List ℕ) (syntax : ProgramSyntax) : Type 0 where
   pub grammar : IsGrammar sentences syntax.grammar
   pub sort : sort_of_program syntax.grammar.names (lexemes text tokens) sentences ≡ Some syntax.sort
   pub words : syntax.names ≡ with_tokens text [] tokens
+
+-- A definition: the tokens of its text, its sentences, and what it says of programs.
+pub record IsDefinition (text : List ℕ) (definition : Definition) : Type 0 where
+  pub are : AreSentences text definition.tokens definition.sentences
+  pub grammar : IsGrammar definition.sentences definition.syntax.grammar
+  pub sort : sort_of_program definition.syntax.grammar.names (lexemes text definition.tokens) definition.sentences ≡ Some definition.syntax.sort
+  pub words : definition.syntax.names ≡ with_tokens text [] definition.tokens
 
 -- there are sentences and a grammar, and no such cell
 pub record HasNoCell (text : List ℕ) : Type 0 where
@@ -78,6 +86,12 @@ pub record IsOnlyFault (text : List ℕ) (fault : SyntaxFault) : Type 0 where
 pub record IsOnlySyntax (text : List ℕ) (syntax : ProgramSyntax) : Type 0 where
   pub is : IsSyntax text syntax
   pub only : (other : ProgramSyntax) → IsSyntax text other → other ≡ syntax
+  pub no_fault : (fault : SyntaxFault) → IsSyntaxFault text fault → ⊥
+
+-- this is what the text defines, and there is no other and no fault
+pub record IsOnlyDefinition (text : List ℕ) (definition : Definition) : Type 0 where
+  pub is : IsDefinition text definition
+  pub only : (other : Definition) → IsDefinition text other → other ≡ definition
   pub no_fault : (fault : SyntaxFault) → IsSyntaxFault text fault → ⊥
 
 -- what a phase's want of memory or fault is told as

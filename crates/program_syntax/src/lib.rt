@@ -9,7 +9,7 @@ mod sentences;
 mod syntax;
 
 pub use fault::SyntaxFault;
-pub use syntax::{ProgramSyntax, read_syntax};
+pub use syntax::{Definition, ProgramSyntax, read_definition, read_syntax};
 
 #[cfg(test)]
 mod tests;

@@ -117,7 +117,7 @@ pub record IsFirst (text : List ℕ) (tokens : List Token) (word : Word) (size :
   pub some : 0 < size
   pub within : size ≤ length tokens
   pub inside : IsInside text word
-  pub program : is_of_program word.kind ≡ true
+  pub program : is_of_program word.kind word.sort ≡ true
 
 abbrev pub taken : Word → ℕ → Option (Word × ℕ)
 taken word size = Some (word, size)
@@ -140,7 +140,7 @@ choose P false x y p q = q
 
 -- a word from one token
 abbrev FromOne : List ℕ → Token → Word → Type 0
-FromOne text token word = (word.start ≡ token.start) × (word.end ≡ token.end) × (is_of_program word.kind ≡ true)
+FromOne text token word = (word.start ≡ token.start) × (word.end ≡ token.end) × (is_of_program word.kind word.sort ≡ true)
 
 word_from : (terminals names : List (List ℕ)) (text : List ℕ) (token : Token) (bytes : List ℕ) → FromOne text token (word_of terminals names token bytes)
 word_from terminals names text token bytes =

@@ -1,12 +1,6 @@
-use Rattle.std.proofs.Common.{◌≡◌, ◌⊎◌, sym, subst}
-use Rattle.program_syntax.specs.declared.fault.SyntaxFault.TheVariants.{Memory}
-use Rattle.program_syntax.specs.Syntaxes.{IsOnlyFault, AreOnlySentences}
-use Rattle.program_syntax.proofs.Exactness.{sort_told}
+use Rattle.std.proofs.Common.{}
+use Rattle.program_syntax.proofs.Exactness.{syntax_only}
 use Rattle.program_syntax.proofs.syntax.read_syntax.Goals as goal
 
-pub returns-clause-fault : goal.returns-clause-fault
-returns-clause-fault c =
-    subst (λ fault. (fault ≡ Memory) ⊎ IsOnlyFault c.args.text.now fault) (sym c.sort_fault.ensures)
-    (sort_told c.args.text.now c.in-Ok.sentences.tokens.items c.as_slice.result.now
-    (subst (AreOnlySentences c.args.text.now c.in-Ok.sentences.tokens.items) (sym c.as_slice.ensures.value) c.in-Ok.ensures.ok) c.in-Err-read_grammar.fault
-    c.in-Err-read_grammar.ensures.fault c.in-Err-read_grammar.ensures.exact c.in-Err-read_grammar.ensures.exact_fault)
+pub returns-in-Ok-clause-ok : goal.returns-in-Ok-clause-ok
+returns-in-Ok-clause-ok c = syntax_only c.args.text.now c.in-Ok.definition c.in-Ok.ensures.ok
