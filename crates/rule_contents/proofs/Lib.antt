@@ -1,0 +1,4 @@
+pub mod Asking
+pub mod Halves
+pub mod Marking
+pub mod Placing

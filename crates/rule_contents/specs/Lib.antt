@@ -1,0 +1,5 @@
+pub mod Contents
+pub mod Words
+pub mod Readings
+pub mod Operators
+pub mod Laws
