@@ -1,0 +1,4 @@
+pub mod Lists
+pub mod ItemLayers
+pub mod Drafting
+pub mod Single
