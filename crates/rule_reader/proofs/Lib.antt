@@ -1,0 +1,5 @@
+pub mod Layers
+pub mod OneReading
+pub mod Determined
+pub mod Asked
+pub mod Phases
