@@ -1,0 +1,4 @@
+pub mod Listed
+pub mod Determined
+pub mod Refusing
+pub mod Endings

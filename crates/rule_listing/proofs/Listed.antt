@@ -1,0 +1,76 @@
+-- The cells in a body, by the numbers of their declared cells.
+use Rattle.std.proofs.Common.{◌≡◌, ℕ, zero, suc, ◌+◌, ◌<◌, List, [], ◌∷◌, ◌++◌, length, map, take, drop, get_or, refl, sym, ap, ◌∙◌, arith}
+use Rattle.std.proofs.lemmas.List.{append-nil, append_assoc}
+use Rattle.std.proofs.lemmas.List.{map-append}
+use Rattle.std.specs.Prelude.{Option}
+use Rattle.std.specs.List.{flat_map}
+use Rattle.grammar_terms.specs.Grammar.{Syntax}
+use Rattle.rule_terms.specs.declared.defs.CellShape.{CellShape}
+use Rattle.rule_terms.specs.declared.rule.Draft.{Draft}
+use Rattle.rule_terms.specs.declared.pattern.Body.{Body, Cells}
+use Rattle.rule_terms.specs.declared.pattern.CellPat.{CellPat}
+use Rattle.rule_terms.specs.Spots.{Spot, spots, spots_in}
+use Rattle.rule_terms.specs.CellCounts.{spots_under}
+use Rattle.rule_terms.proofs.SpotCounts.{spots_of_cells, no_spots}
+use Rattle.rule_listing.specs.Lines.{cells_of, rule_line, lines_from}
+
+abbrev cell_in : Spot → ℕ
+cell_in p = p.cell
+
+under : (above : ℕ) (cells : List CellPat) → map cell_in (flat_map (spots_under above) cells) ≡ cells_of cells
+under above [] = refl
+under above (c ∷ cs) = map-append cell_in (spots_under above c) (flat_map (spots_under above) cs) ∙ ap (λ ns. map cell_in (spots_under above c) ++ ns) (under above cs)
+
+pub cells_in : (above : ℕ) (body : Body) (cells lent : List CellPat) (rest : Option ℕ) → body ≡ Cells cells rest → lent ≡ cells
+    → cells_of lent ≡ map cell_in (spots_in above body)
+cells_in above body cells lent rest is same = sym (ap (map cell_in) (spots_of_cells above body cells lent rest is same) ∙ under above lent)
+
+pub none_in : (above : ℕ) (body : Body) → ((cells : List CellPat) (rest : Option ℕ) → body ≡ Cells cells rest → ⊥) → map cell_in (spots_in above body) ≡ []
+none_in above body other = ap (map cell_in) (no_spots above body other)
+
+one_more : (i : ℕ) → i + 1 ≡ suc i
+one_more i = omega arith
+
+cells_to : (cells : List CellPat) (i : ℕ) (cell : CellPat) → i < length cells → cell ≡ get_or cells i cell → cells_of (take (suc i) cells) ≡ cells_of (take i cells) ++ map cell_in (spots cell)
+cells_to [] i cell within is = absurd (omega arith)
+cells_to (c ∷ cs) zero cell within is = append-nil (map cell_in (spots c)) ∙ ap (λ (d : CellPat). map cell_in (spots d)) (sym is)
+cells_to (c ∷ cs) (suc i) cell within is = ap (λ ns. map cell_in (spots c) ++ ns) (cells_to cs i cell (omega arith) is) ∙ sym (append_assoc (map cell_in (spots c)) (cells_of (take i cs)) (map cell_in (spots cell)))
+
+-- cells up to one more
+pub cells_next : (cells : List CellPat) (i : ℕ) (cell : CellPat) → i < length cells → cell ≡ get_or cells i cell → cells_of (take (i + 1) cells) ≡ cells_of (take i cells) ++ map cell_in (spots cell)
+cells_next cells i cell within is = ap (λ n. cells_of (take n cells)) (one_more i) ∙ cells_to cells i cell within is
+
+lines_to : (g : Syntax) (cells : List CellShape) (drafts : List Draft) (i n : ℕ) (draft : Draft) → i < length drafts → draft ≡ get_or drafts i draft
+    → lines_from g cells n (drop i drafts) ≡ rule_line g cells n draft ++ lines_from g cells (n + 1) (drop (suc i) drafts)
+lines_to g cells [] i n draft within is = absurd (omega arith)
+lines_to g cells (d ∷ ds) zero n draft within is = ap (λ (e : Draft). rule_line g cells n e ++ lines_from g cells (n + 1) ds) (sym is)
+lines_to g cells (d ∷ ds) (suc i) n draft within is = lines_to g cells ds i n draft (omega arith) is
+
+-- the lines from a rule on
+pub lines_next : (g : Syntax) (cells : List CellShape) (drafts : List Draft) (i n : ℕ) (draft : Draft) → i < length drafts → draft ≡ get_or drafts i draft
+    → lines_from g cells n (drop i drafts) ≡ rule_line g cells n draft ++ lines_from g cells (n + 1) (drop (i + 1) drafts)
+lines_next g cells drafts i n draft within is =
+    lines_to g cells drafts i n draft within is ∙ ap (λ k. rule_line g cells n draft ++ lines_from g cells (n + 1) (drop k drafts)) (sym (one_more i))
+
+pub lines_append : (g : Syntax) (cells : List CellShape) (n : ℕ) (some more : List Draft) → lines_from g cells n (some ++ more) ≡ lines_from g cells n some ++ lines_from g cells (n + length some) more
+lines_append g cells n [] more = ap (λ m. lines_from g cells m more) (omega arith)
+lines_append g cells n (d ∷ ds) more =
+    ap (λ ls. rule_line g cells n d ++ ls) (lines_append g cells (n + 1) ds more ∙ ap (λ m. lines_from g cells (n + 1) ds ++ lines_from g cells m more) (omega arith))
+    ∙ sym (append_assoc (rule_line g cells n d) (lines_from g cells (n + 1) ds) (lines_from g cells (n + suc (length ds)) more))
+
+-- the same of lists that grow
+pub cells_kept : (cells : List CellPat) (i : ℕ) (cell : CellPat) (old before now : List ℕ) → i < length cells → cell ≡ get_or cells i cell
+    → before ≡ old ++ cells_of (take i cells) → now ≡ before ++ map cell_in (spots cell) → now ≡ old ++ cells_of (take (i + 1) cells)
+cells_kept cells i cell old before now within is had has =
+    has ∙ ap (λ ns. ns ++ map cell_in (spots cell)) had ∙ append_assoc old (cells_of (take i cells)) (map cell_in (spots cell))
+    ∙ ap (λ ns. old ++ ns) (sym (cells_next cells i cell within is))
+
+one_behind : (n : ℕ) → n + 1 ≡ 1 + n
+one_behind n = omega arith
+
+pub lines_together : (g : Syntax) (cells : List CellShape) (some more : List Draft) (none first second : List ℕ) → none ≡ []
+    → first ≡ none ++ lines_from g cells 1 some → second ≡ first ++ lines_from g cells (length some + 1) more → second ≡ lines_from g cells 1 (some ++ more)
+lines_together g cells some more none first second empty one both =
+    both ∙ ap (λ ls. ls ++ lines_from g cells (length some + 1) more) (one ∙ ap (λ ls. ls ++ lines_from g cells 1 some) empty)
+    ∙ ap (λ n. lines_from g cells 1 some ++ lines_from g cells n more) (one_behind (length some))
+    ∙ sym (lines_append g cells 1 some more)
