@@ -10,5 +10,5 @@ true_false : true ≡ false → ⊥
 true_false same = cc
 
 -- words with another mode don't ask for this one
-pub not_asked : (words : List (List ℕ)) (wanted mode : List ℕ) → word_at words 1 ≡ mode → false ≡ pointwise nat_eq mode wanted → AskFor words wanted → ⊥
-not_asked words wanted mode is differ asked = true_false (sym ((bytes_eq-Decides mode wanted).1 (sym is ∙ asked.mode_is)) ∙ sym differ)
+pub not_asked : (words : List (List ℕ)) (wanted mode : List ℕ) (files : ℕ) → word_at words 1 ≡ mode → false ≡ pointwise nat_eq mode wanted → AskFor words wanted files → ⊥
+not_asked words wanted mode files is differ asked = true_false (sym ((bytes_eq-Decides mode wanted).1 (sym is ∙ asked.mode_is)) ∙ sym differ)

@@ -20,7 +20,7 @@ use Rattle.program_answer.specs.declared.answer.Answer.{Answer}
 use Rattle.program_answer.specs.declared.answer.Answer.TheVariants.{Shown as TermShown, Refused}
 use Rattle.program_answer.specs.Answers.{IsTold}
 use Rattle.krun.specs.declared.def_fault.DefFault.{DefFault}
-use Rattle.krun.specs.declared.def_fault.DefFault.TheVariants.{TooBig, Lex, Module, Sort, Memory}
+use Rattle.krun.specs.declared.def_fault.DefFault.TheVariants.{TooBig, Lex, Module, Sort, Strict, Rule, Memory}
 use Rattle.krun.specs.declared.outcome.Outcome.{Outcome}
 use Rattle.krun.specs.declared.outcome.Outcome.TheVariants.{Final, Budget, Shown, Usage, Definition, Unbuilt, Program, ReadFault, Memory as NoMemoryLeft}
 use Rattle.krun.specs.declared.outcome.Which.TheVariants.{Definition as TheDefinition, Program as TheProgram}
@@ -28,12 +28,12 @@ use Rattle.krun.specs.Outcome.{is_stop, is_answer, run_word, wants_memory, IsRep
 use Rattle.krun.specs.Refusals.{def_limit}
 use Rattle.krun.specs.Kast.{IsFaulty, Says, IsNothing, SaysOnly, IsOnlyNothing, FileSays, IsAnswer, IsStopped, IsReadOf, Answers, AreAlike, told_fault, told_answer, program_limit}
 
-over_and_under : (limit n : ℕ) → limit < n → n ≤ limit → ⊥
+pub over_and_under : (limit n : ℕ) → limit < n → n ≤ limit → ⊥
 over_and_under limit n over under = omega (arith, over, under)
 
 -- ---- definitions
 
-no_memory_fault : (text : List ℕ) → IsLexFault text LexMemory → ⊥
+pub no_memory_fault : (text : List ℕ) → IsLexFault text LexMemory → ⊥
 no_memory_fault text h = elim h.is [ inl stop ↦ stop.stops | inr bad ↦ cc ]
 
 -- a fault of a definition is never want of memory
@@ -53,6 +53,8 @@ proper bytes (Sort (NoSort name)) h = refl
 proper bytes (Sort (SubsortCycle sort)) h = refl
 proper bytes (Sort (CyclicProduction p)) h = refl
 proper bytes (Sort SortMemory) h = absurd h.1.3
+proper bytes (Strict fault) h = absurd h
+proper bytes (Rule refusal) h = absurd h
 proper bytes Memory h = absurd h
 
 module _ (bytes : List ℕ) (short : length bytes ≤ def_limit) where
@@ -62,6 +64,8 @@ module _ (bytes : List ℕ) (short : length bytes ≤ def_limit) where
   back (Definition (Lex fault)) h = (LexOf fault, h.1, refl)
   back (Definition (Module fault)) h = (ModuleOf fault, h.1, refl)
   back (Definition (Sort fault)) h = (SortOf fault, h.1, refl)
+  back (Definition (Strict fault)) h = elim h [ ]
+  back (Definition (Rule refusal)) h = elim h [ ]
   back (Definition Memory) h = elim h [ ]
   back Unbuilt h = (NoCell, h.1, refl)
   back Final h = elim h [ ]
@@ -111,6 +115,8 @@ too_long bytes long = record {
     other_is (Definition (Lex fault)) h = absurd (over_and_under def_limit (length bytes) long h.0)
     other_is (Definition (Module fault)) h = absurd (over_and_under def_limit (length bytes) long h.0)
     other_is (Definition (Sort fault)) h = absurd (over_and_under def_limit (length bytes) long h.0)
+    other_is (Definition (Strict fault)) h = elim h [ ]
+    other_is (Definition (Rule refusal)) h = elim h [ ]
     other_is (Definition Memory) h = elim h [ ]
     other_is Unbuilt h = absurd (over_and_under def_limit (length bytes) long h.0)
     other_is Final h = elim h [ ]
@@ -142,7 +148,7 @@ bytes_stopped file rose (ReadFault TheProgram) stop usage unbuilt program other 
 bytes_stopped file rose NoMemoryLeft stop usage unbuilt program other fault long proper = tt
 
 -- what holds of the bytes holds of the file that they are
-of_file : (file : Option (List ℕ)) (bytes : List ℕ) (P : List ℕ → Type 0) → IfSome file (λ told. bytes ≡ told) → P bytes → IfSome file P
+pub of_file : (file : Option (List ℕ)) (bytes : List ℕ) (P : List ℕ → Type 0) → IfSome file (λ told. bytes ≡ told) → P bytes → IfSome file P
 of_file None bytes P whole holds = tt
 of_file (Some told) bytes P whole holds = subst P whole holds
 

@@ -3,3 +3,5 @@ pub mod Fronts
 mod Causes
 mod Asking
 mod Kasting
+mod Ruling
+mod Grouping

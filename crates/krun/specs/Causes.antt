@@ -1,5 +1,5 @@
 -- When each refusal comes.
-use Rattle.std.specs.Prelude.{◌≡◌, ℕ, List, length, Option, codes, IsSomeAnd}
+use Rattle.std.specs.Prelude.{◌≡◌, ℕ, ◌+◌, List, length, Option, codes, IsSomeAnd}
 use Rattle.k_terms.specs.declared.value.Value.{Value}
 use Rattle.small_form.specs.declared.small.Small.{Small}
 use Rattle.small_form.specs.Small.{IsSmallText}
@@ -12,14 +12,14 @@ use Rattle.krun.specs.declared.outcome.Outcome.TheVariants.{Definition, Unbuilt,
 use Rattle.krun.specs.Refusals.{HasNoRefusal, IsOnlyRefusal}
 use Rattle.krun.specs.Headline.{word_at, IsRun, Took}
 
--- the words ask for a mode: the program's name, the mode, and the names of two files
-pub record AskFor (words : List (List ℕ)) (mode : List ℕ) : Type 0 where
-  pub four : length words ≡ 4
+-- the words ask for a mode: the program's name, the mode, and the names of so many files
+pub record AskFor (words : List (List ℕ)) (mode : List ℕ) (files : ℕ) : Type 0 where
+  pub all : length words ≡ 2 + files
   pub mode_is : word_at words 1 ≡ mode
 
 -- the words are a job: they ask for `run`
 abbrev pub IsJob : List (List ℕ) → Type 0
-IsJob words = AskFor words (codes "run")
+IsJob words = AskFor words (codes "run") 2
 
 -- the bytes are of the small form
 abbrev pub IsOfSmallForm : List ℕ → Type 0

@@ -10,7 +10,7 @@ use Rattle.program_answer.specs.declared.answer.Answer.{Answer}
 use Rattle.program_answer.specs.declared.answer.Answer.TheVariants.{Shown as TermShown, Refused}
 use Rattle.program_answer.specs.Answers.{IsTold}
 use Rattle.krun.specs.declared.def_fault.DefFault.{DefFault}
-use Rattle.krun.specs.declared.def_fault.DefFault.TheVariants.{TooBig, Lex, Module, Sort, Memory}
+use Rattle.krun.specs.declared.def_fault.DefFault.TheVariants.{TooBig, Lex, Module, Sort, Strict, Rule, Memory}
 use Rattle.krun.specs.declared.outcome.Outcome.{Outcome}
 use Rattle.krun.specs.declared.outcome.Outcome.TheVariants.{Shown, Definition, Unbuilt, Program, ReadFault, Memory as NoMemoryLeft}
 use Rattle.krun.specs.declared.outcome.Which.TheVariants.{Definition as TheDefinition, Program as TheProgram}
@@ -20,7 +20,7 @@ use Rattle.krun.specs.Causes.{AskFor}
 
 -- the words ask for `kast`, and so for the term of a program
 abbrev pub IsKast : List (List ℕ) → Type 0
-IsKast words = AskFor words (codes "kast")
+IsKast words = AskFor words (codes "kast") 2
 
 -- Why the bytes of a definition are refused: they are too many, or have a fault of tokens, modules, or sorts and productions.
 abbrev pub IsFaulty : List ℕ → DefFault → Type 0
@@ -28,6 +28,8 @@ IsFaulty bytes (TooBig limit) = (def_limit < length bytes) × (limit ≡ def_lim
 IsFaulty bytes (Lex fault) = (length bytes ≤ def_limit) × IsSyntaxFault bytes (LexOf fault)
 IsFaulty bytes (Module fault) = (length bytes ≤ def_limit) × IsSyntaxFault bytes (ModuleOf fault)
 IsFaulty bytes (Sort fault) = (length bytes ≤ def_limit) × IsSyntaxFault bytes (SortOf fault)
+IsFaulty bytes (Strict fault) = ⊥
+IsFaulty bytes (Rule refusal) = ⊥
 IsFaulty bytes Memory = ⊥
 
 -- the bytes of a definition say this of programs

@@ -4,3 +4,4 @@ pub mod Refusals
 pub mod Headline
 pub mod Causes
 pub mod Kast
+pub mod Rules

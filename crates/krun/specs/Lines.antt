@@ -6,11 +6,15 @@ use Rattle.k_lexer.specs.declared.fault.LexFault.TheVariants.{BadByte, OpenStrin
 use Rattle.module_reader.specs.declared.fault.ModuleFault.{ModuleFault}
 use Rattle.module_reader.specs.declared.fault.ModuleFault.TheVariants.{Expected, NoModule, ImportCycle, TwoModules, Memory as ModuleMemory}
 use Rattle.krun.specs.declared.def_fault.DefFault.{DefFault}
-use Rattle.krun.specs.declared.def_fault.DefFault.TheVariants.{TooBig, Lex, Module, Sort, Memory}
+use Rattle.krun.specs.declared.def_fault.DefFault.TheVariants.{TooBig, Lex, Module, Sort, Strict, Rule, Memory}
 use Rattle.sorted_grammar.specs.declared.fault.What.{What}
 use Rattle.sorted_grammar.specs.declared.fault.What.TheVariants.{Sorts, Productions, Rules, Cells, RuleTokens, PatternCells, NewCells}
 use Rattle.sorted_grammar.specs.declared.fault.SortFault.{SortFault}
 use Rattle.sorted_grammar.specs.declared.fault.SortFault.TheVariants.{TooMany, NoSort, SubsortCycle, CyclicProduction, Memory as SortMemory}
+use Rattle.strictness.specs.declared.fault.StrictFault.{StrictFault}
+use Rattle.strictness.specs.declared.fault.StrictFault.TheVariants.{BadStrict, Memory as StrictMemory}
+use Rattle.rule_reader.specs.declared.refusal.RuleFault.{RuleFault}
+use Rattle.rule_reader.specs.declared.refusal.RuleFault.TheVariants.{TooMany as TooMuch, BadToken, WideNumber, Unsorted, SortClash, NoReading, AmbiguousAt, PatternForm, NotBoundLeft, Memory as RuleMemory}
 
 -- a line feed
 abbrev pub line_end : List ℕ
@@ -53,10 +57,39 @@ sort_line (SubsortCycle sort) = named (codes "definition 9 SubsortCycle sort=") 
 sort_line (CyclicProduction p) = numbered (codes "definition 10 CyclicProduction prod=") p
 sort_line SortMemory = []
 
+abbrev pub strict_line : StrictFault → List ℕ
+strict_line (BadStrict p place) = codes "definition 21 BadStrict prod=" ++ decimal p ++ codes " place=" ++ decimal place ++ line_end
+strict_line StrictMemory = []
+
+-- a refusal of a rule, with the byte of its word `rule`
+abbrev pub of_rule : List ℕ → ℕ → List ℕ
+of_rule name rule = name ++ codes " rule=" ++ decimal rule
+
+abbrev pub rule_numbered : List ℕ → ℕ → ℕ → List ℕ
+rule_numbered name rule at = of_rule name rule ++ codes " at=" ++ decimal at ++ line_end
+
+abbrev pub rule_named : List ℕ → ℕ → List ℕ → List ℕ
+rule_named name rule var = of_rule name rule ++ codes " var=" ++ var ++ line_end
+
+abbrev pub rule_fault_line : ℕ → RuleFault → List ℕ
+rule_fault_line rule (TooMuch what n) = of_rule (codes "definition 11 TooMany") rule ++ codes " what=" ++ what_word what ++ codes " n=" ++ decimal n ++ line_end
+rule_fault_line rule (BadToken at) = rule_numbered (codes "definition 12 BadToken") rule at
+rule_fault_line rule (WideNumber at) = rule_numbered (codes "definition 16 WideNumber") rule at
+rule_fault_line rule (Unsorted var) = rule_named (codes "definition 17 Unsorted") rule var
+rule_fault_line rule (SortClash var first second) =
+    of_rule (codes "definition 18 SortClash") rule ++ codes " var=" ++ var ++ codes " first=" ++ first ++ codes " second=" ++ second ++ line_end
+rule_fault_line rule (NoReading at) = rule_numbered (codes "definition 13 NoReading") rule at
+rule_fault_line rule (AmbiguousAt at) = rule_numbered (codes "definition 14 AmbiguousAt") rule at
+rule_fault_line rule (PatternForm at) = rule_numbered (codes "definition 20 PatternForm") rule at
+rule_fault_line rule (NotBoundLeft var) = rule_named (codes "definition 19 NotBoundLeft") rule var
+rule_fault_line rule RuleMemory = []
+
 -- want of memory is no refusal, and has no line
 abbrev pub fault_line : DefFault → List ℕ
 fault_line (TooBig bytes) = numbered (codes "definition 27 TooBig bytes=") bytes
 fault_line (Lex fault) = lex_line fault
 fault_line (Module fault) = module_line fault
 fault_line (Sort fault) = sort_line fault
+fault_line (Strict fault) = strict_line fault
+fault_line (Rule refusal) = rule_fault_line refusal.at refusal.fault
 fault_line Memory = []

@@ -5,7 +5,7 @@ use Rattle.k_lexer.specs.declared.fault.LexFault.{LexFault}
 use Rattle.k_lexer.specs.Lexing.{AreTokens, IsFault as IsLexFault}
 use Rattle.module_reader.specs.Faults.{IsFault as IsModuleFault}
 use Rattle.krun.specs.declared.def_fault.DefFault.{DefFault}
-use Rattle.krun.specs.declared.def_fault.DefFault.TheVariants.{TooBig, Lex, Module, Sort, Memory}
+use Rattle.krun.specs.declared.def_fault.DefFault.TheVariants.{TooBig, Lex, Module, Sort, Strict, Rule, Memory}
 
 -- the greatest length of a definition, in bytes
 abbrev pub def_limit : ℕ
@@ -18,6 +18,8 @@ IsRefused bytes (TooBig limit) = (def_limit < length bytes) × (limit ≡ def_li
 IsRefused bytes (Lex fault) = (length bytes ≤ def_limit) × IsLexFault bytes fault
 IsRefused bytes (Module fault) = (length bytes ≤ def_limit) × ((tokens : List Token) × AreTokens bytes tokens × IsModuleFault bytes tokens fault)
 IsRefused bytes (Sort fault) = ⊥
+IsRefused bytes (Strict fault) = ⊥
+IsRefused bytes (Rule refusal) = ⊥
 IsRefused bytes Memory = ⊥
 
 -- nothing refuses the bytes

@@ -7,23 +7,25 @@ ghost use Rattle.krun.specs.Refusals.{IsRefused, HasNoRefusal};
 ghost use Rattle.krun.specs.Headline.{word_at, caller_fired, IsRun, Took};
 ghost use Rattle.krun.specs.Causes.{IsJob, IsDefinition, IsUnbuilt, IsOfSmallForm, IsProgram, IsWholeRun};
 ghost use Rattle.krun.specs.Kast.{IsKast, IsAnswer, IsStopped, IsNothing, Answers, AreAlike};
+ghost use Rattle.krun.specs.Rules.{IsRules, ListsOnly, HasNone, MustList};
 ghost use Rattle.krun.specs.declared.def_fault.DefFault.{DefFault as Fault};
 ghost use Rattle.krun.specs.declared.outcome.Outcome.{Outcome as AnOutcome};
-ghost use Rattle.krun.specs.declared.outcome.Outcome.TheVariants.{Usage as WantOfWords, Definition as DefinitionRefused, Unbuilt as NotOfSmallForm, Program as ProgramRefused, Memory as WantOfMemory, ReadFault as FaultOf};
+ghost use Rattle.krun.specs.declared.outcome.Outcome.TheVariants.{Usage as WantOfWords, Definition as DefinitionRefused, Unbuilt as NotOfSmallForm, Program as ProgramRefused, Memory as WantOfMemory, ReadFault as FaultOf, Shown as WasShown};
 ghost use Rattle.program_reader.specs.declared.refusal.ReadRefusal.{ReadRefusal};
 ghost use Rattle.program_reader.specs.declared.refusal.ReadRefusal.TheVariants.{NoReading};
 ghost use Rattle.krun.specs.declared.outcome.Which.TheVariants.{Definition as TheDefinition, Program as TheProgram};
 
-use crate::job::kast_of;
+use crate::job::{kast_of, rules_of};
 use crate::kast::kast_report;
 use crate::report::Report;
+use crate::rules::rules_report;
 use crate::top::run_report;
 use k_edge::{Shelf, Sink};
 use std::alloc::Global;
 
 /// `run` reads a definition and a program, rewrites the program by the definition's rules, at most 100,000 times, and writes
 /// the outcome, the number of firings and the configuration reached. `kast` reads both, and writes the term that the program
-/// is. Each writes the line of a refusal instead. Where a file can't be read or memory is wanting, nothing is written. Where
+/// is. `rules` reads a definition, and writes a line for each of its rules. Each writes the line of a refusal instead. Where a file can't be read or memory is wanting, nothing is written. Where
 /// the text can't be written, the status is 6, and the outcome says what would have been written.
 pub fn krun_alone<H: Shelf, O: Sink>(
     alloc: Global,
@@ -45,7 +47,7 @@ pub fn krun_alone<H: Shelf, O: Sink>(
     ensures status { (result.status ≡ 6) ⊎ (result.status ≡ status_of result.outcome) }
 
     // The cause of each refusal, in the order in which they are tried.
-    ensures usage { (result.outcome ≡ WantOfWords) ↔ (IsJob (map string_bytes words.now) ⊎ IsKast (map string_bytes words.now) → ⊥) }
+    ensures usage { (result.outcome ≡ WantOfWords) ↔ (IsJob (map string_bytes words.now) ⊎ IsKast (map string_bytes words.now) ⊎ IsRules (map string_bytes words.now) → ⊥) }
     ensures definition_fault { result.outcome ≡ FaultOf TheDefinition →
         Rose (H.faults shelf.old (word_at (map string_bytes words.now) 2)) (H.faults shelf.new (word_at (map string_bytes words.now) 2)) }
     ensures definition { IsJob (map string_bytes words.now) → (fault : Fault) → result.outcome ≡ DefinitionRefused fault →
@@ -104,9 +106,25 @@ pub fn krun_alone<H: Shelf, O: Sink>(
         (Rose (H.faults shelf.old (word_at (map string_bytes words.now) 2)) (H.faults shelf.new (word_at (map string_bytes words.now) 2)) → ⊥) →
         (Rose (H.faults shelf.old (word_at (map string_bytes words.now) 3)) (H.faults shelf.new (word_at (map string_bytes words.now) 3)) → ⊥) →
         AreAlike o result.outcome ⊎ (result.outcome ≡ WantOfMemory))) }
+
+    // What `rules` shows; why it shows nothing; and where it must answer what.
+    ensures rules { IsRules (map string_bytes words.now) → result.outcome ≡ WasShown → (lines : List ℕ)
+        × IfSome (H.told shelf.old (word_at (map string_bytes words.now) 2)) (λ definition. ListsOnly definition lines)
+        × (result.status ≢ 6 → Took (O.taken out.old) (O.taken out.new) lines)
+        × (result.status ≡ 6 → AppendsFront (O.taken out.old) (O.taken out.new) lines) }
+    ensures rules_stop { IsRules (map string_bytes words.now) → result.outcome ≢ WasShown →
+        HasNone (H.told shelf.old (word_at (map string_bytes words.now) 2))
+        (Rose (H.faults shelf.old (word_at (map string_bytes words.now) 2)) (H.faults shelf.new (word_at (map string_bytes words.now) 2))) result.outcome }
+    ensures rules_where { IsRules (map string_bytes words.now) → IfSome (H.told shelf.old (word_at (map string_bytes words.now) 2)) (λ definition.
+        (o : AnOutcome) → MustList definition o →
+        (Rose (H.faults shelf.old (word_at (map string_bytes words.now) 2)) (H.faults shelf.new (word_at (map string_bytes words.now) 2)) → ⊥) →
+        (result.outcome ≡ o) ⊎ (result.outcome ≡ WantOfMemory)) }
 {
-    match kast_of(words) {
-        Some(job) => kast_report(alloc, shelf, out, &job),
-        None => run_report(alloc, words, shelf, out),
+    if let Some(job) = kast_of(words) {
+        return kast_report(alloc, shelf, out, &job);
     }
+    if let Some(definition) = rules_of(words) {
+        return rules_report(alloc, shelf, out, definition);
+    }
+    run_report(alloc, words, shelf, out)
 }

@@ -2,11 +2,14 @@ ghost use Rattle.std.specs.Prelude.{◌≡◌, ◌++◌, IfOk};
 ghost use Rattle.std.specs.Fmt.{decimal};
 ghost use Rattle.krun.specs.Lines.{line_end, lex_line, module_line, sort_line, what_word, fault_line};
 
+use crate::rule_fault::{line_of_refusal, line_of_strict_fault};
 use k_lexer::LexFault;
 use k_terms::Memory;
 use module_reader::ModuleFault;
+use rule_reader::RuleRefusal;
 use sorted_grammar::{SortFault, What};
 use std::alloc::Global;
+use strictness::StrictFault;
 
 /// Why a definition was refused, in the order in which it is tried.
 #[derive(Debug, Drop, PartialEq, Eq)]
@@ -19,6 +22,10 @@ pub enum DefFault {
     Module(ModuleFault),
     /// Its sentences have no grammar.
     Sort(SortFault),
+    /// A production may not be strict as it says.
+    Strict(StrictFault),
+    /// A rule is none.
+    Rule(RuleRefusal),
     /// Memory was wanting.
     Memory,
 }
@@ -35,6 +42,8 @@ impl DefFault {
             DefFault::Lex(fault) => line_of_lex_fault(alloc, *fault),
             DefFault::Module(fault) => line_of_module_fault(alloc, fault),
             DefFault::Sort(fault) => line_of_sort_fault(alloc, fault),
+            DefFault::Strict(fault) => line_of_strict_fault(alloc, *fault),
+            DefFault::Rule(refusal) => line_of_refusal(alloc, refusal),
             DefFault::Memory => Ok(Vec::new(alloc)),
         }
     }
@@ -78,7 +87,7 @@ fn line_of_module_fault(alloc: Global, fault: &ModuleFault) -> Result<Vec<u8>, M
 }
 
 /// The words for what there are too many of.
-fn word_of_what(what: What) -> &'static str
+pub(crate) fn word_of_what(what: What) -> &'static str
     ensures { result.now ≡ what_word what }
 {
     match what {

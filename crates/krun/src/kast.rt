@@ -24,7 +24,7 @@ use std::alloc::Global;
 const PROGRAM_LIMIT: usize = 65_536;
 
 /// The outcome of a definition that says nothing of programs.
-fn outcome_of(fault: SyntaxFault) -> Outcome
+pub(crate) fn outcome_of(fault: SyntaxFault) -> Outcome
     ensures { result ≡ told_fault fault }
 {
     match fault {

@@ -11,6 +11,8 @@ mod kast;
 mod outcome;
 mod outside;
 mod report;
+mod rule_fault;
+mod rules;
 #[cfg(test)]
 mod tests;
 mod texts;

@@ -430,3 +430,72 @@ fn refuses_terms_past_the_limits(rt: HostRuntime) -> Result<(), Fail> {
     }
     Ok(())
 }
+
+/// Definitions, the lines of their rules or that of their refusal, and the status.
+const LISTED: [(&str, &str, u8); 10] = [
+    (TINY, "1 rule k\n2 rule k\n", 0),
+    (
+        "module S syntax E ::= Int | E \"+\" E [left, strict] syntax KResult ::= Int configuration <k> $PGM:E </k> rule I:Int + J:Int => I +Int J endmodule",
+        "1 rule k\n2 heat _+_ 1\n3 cool _+_ 1\n4 heat _+_ 2\n5 cool _+_ 2\n",
+        0,
+    ),
+    (
+        "module M syntax A ::= f(A) syntax B ::= g(B) configuration <k> $PGM:A </k> rule f(X) => g(X) endmodule",
+        "definition 17 Unsorted rule=75 var=X\n",
+        3,
+    ),
+    (
+        "module M syntax A ::= f(A) syntax B ::= g(B) configuration <k> $PGM:A </k> rule f(X:A) => g(Y:B) endmodule",
+        "definition 19 NotBoundLeft rule=75 var=Y\n",
+        3,
+    ),
+    (
+        "module M syntax A ::= f(A) syntax B ::= g(B) configuration <k> $PGM:A </k> rule f(X:A) => f(X:B) endmodule",
+        "definition 18 SortClash rule=75 var=X first=A second=B\n",
+        3,
+    ),
+    (
+        "module S syntax E ::= f(E) [strict(2)] configuration <k> $PGM:E </k> endmodule",
+        "definition 21 BadStrict prod=1 place=2\n",
+        3,
+    ),
+    (
+        "module M syntax A ::= f(A) syntax B ::= g(B) configuration <k> $PGM:A </k> endmodule",
+        "",
+        0,
+    ),
+    (
+        "module M syntax A ::= f(A) syntax B ::= g(B) configuration <k> $PGM:A </k> rule <k> f(X:A) => . </k> rule f(Y:A) => $ endmodule",
+        "definition 12 BadToken rule=101 at=116\n",
+        3,
+    ),
+    (
+        "module M syntax A ::= f(A) syntax B ::= g(B) configuration <k> $PGM:A </k> rule f(X:A) => f(X) +Int 1 endmodule",
+        "definition 13 NoReading rule=75 at=80\n",
+        3,
+    ),
+    (
+        "module M syntax A ::= f(A) syntax B ::= g(B) configuration <k> $PGM:A </k> rule f(X:A) => . requires X endmodule",
+        "definition 13 NoReading rule=75 at=101\n",
+        3,
+    ),
+];
+
+/// The definitions of which something else is told than should be, and nothing where all is right.
+fn otherwise_listed(alloc: Global, cases: &[(&str, &str, u8)]) -> Result<String, Fail> {
+    let mut line = String::new(alloc);
+    for (definition, text, status) in cases {
+        let (bytes, failing) = (definition.as_bytes(), Vec::new(alloc));
+        let (report, sink) = report_of(alloc, "krun rules d.k", bytes, "", failing)?;
+        if sink.bytes() != text.as_bytes() || report.status != *status {
+            line.push_str(&format!(in alloc; "{definition}; ")?)?;
+        }
+    }
+    Ok(line)
+}
+
+#[test]
+fn lists_rules(rt: HostRuntime) -> Result<(), Fail> {
+    assert_eq!(rt; otherwise_listed(rt.alloc(), &LISTED)?.as_str(), "");
+    Ok(())
+}

@@ -15,7 +15,7 @@ returns-then-eq-clause-job c =
     let is : word_at (map string_bytes words) 1 ≡ c.as_str.result.now =
     ap (λ o. unwrap_or o []) (slice_get-map string_bytes words 1 ∙ ap (option_map string_bytes) (slice_get_read words 4 1 c.mode-item.result (sym four) (grind (arith, common_steps)) c.mode-item.is)) ∙ sym c.as_str.ensures.value in
     record {
-      four = length-map words string_bytes ∙ four;
+      all = length-map words string_bytes ∙ four;
       mode_is = is ∙ same_text _ _ c.if-eq.ensures;
     }
 
@@ -25,4 +25,4 @@ returns-clause-none c =
     let four : length words ≡ 4 = grind (arith, common_steps) in
     let is : word_at (map string_bytes words) 1 ≡ c.as_str.result.now =
     ap (λ o. unwrap_or o []) (slice_get-map string_bytes words 1 ∙ ap (option_map string_bytes) (slice_get_read words 4 1 c.mode-item.result (sym four) (grind (arith, common_steps)) c.mode-item.is)) ∙ sym c.as_str.ensures.value in
-    not_asked (map string_bytes words) c.args.wanted.now c.as_str.result.now is c.if-eq.ensures
+    not_asked (map string_bytes words) c.args.wanted.now c.as_str.result.now 2 is c.if-eq.ensures
