@@ -1,0 +1,9 @@
+pub mod Bounds
+pub mod Runs
+pub mod Fitting
+pub mod Known
+pub mod Tagging
+pub mod Reading
+pub mod Finding
+pub mod Splitting
+pub mod Whole
