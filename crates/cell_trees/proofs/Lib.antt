@@ -1,0 +1,4 @@
+pub mod Putting
+pub mod Parents
+pub mod Levels
+pub mod Sample

@@ -1,0 +1,4 @@
+pub mod Trees
+pub mod Initials
+pub mod Defaults
+pub mod Sample
