@@ -40,7 +40,7 @@ behind w (u ∷ before) after (v ∷ ws) all is =
     let same : ws ≡ before ++ w ∷ after = cc in
     behind w before after ws all.1 same
 
-two_are_written : (shapes : List CellShape) (one other : ℕ) (both : Bool) → one < length shapes → other < length shapes → AreWritten shapes (written_two one other both)
+pub two_are_written : (shapes : List CellShape) (one other : ℕ) (both : Bool) → one < length shapes → other < length shapes → AreWritten shapes (written_two one other both)
 two_are_written shapes one other both low high = record {
   declared = λ w within. All-contains (λ (v : Written). v.cell < length shapes) (written_two one other both) w
       (All-from_recursion (λ (v : Written). v.cell < length shapes) (written_two one other both) (low, (high, tt))) within;

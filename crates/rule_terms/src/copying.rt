@@ -54,7 +54,7 @@ fn copy_entries(
 
 /// A copy of a body.
 #[cycle(copying_cells)]
-fn copy_body(alloc: Global, body: &Body) -> Result<Body, Memory>
+pub fn copy_body(alloc: Global, body: &Body) -> Result<Body, Memory>
     ensures { IfOk result (λ copy. copy ≡ body.now) }
 {
     Ok(match body {
@@ -73,7 +73,7 @@ fn copy_body(alloc: Global, body: &Body) -> Result<Body, Memory>
 
 /// A copy of a cell of a side.
 #[cycle(copying_cells)]
-fn copy_cell(alloc: Global, cell: &CellPat) -> Result<CellPat, Memory>
+pub fn copy_cell(alloc: Global, cell: &CellPat) -> Result<CellPat, Memory>
     ensures { IfOk result (λ copy. copy ≡ cell.now) }
 {
     Ok(CellPat {
@@ -107,7 +107,7 @@ fn copy_condition(alloc: Global, condition: &Cond) -> Result<Cond, Memory>
 }
 
 /// Copies of conditions.
-fn copy_conditions(alloc: Global, conditions: &[Cond]) -> Result<Many<Cond>, Memory>
+pub fn copy_conditions(alloc: Global, conditions: &[Cond]) -> Result<Many<Cond>, Memory>
     ensures { IfOk result (λ copies. copies ≡ conditions.now) }
 {
     let mut copies = Vec::with_capacity(alloc, conditions.len())?;

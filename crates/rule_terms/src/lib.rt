@@ -10,7 +10,7 @@ mod pattern;
 mod plain;
 mod rule;
 
-pub use copying::copy_rule;
+pub use copying::{copy_body, copy_cell, copy_conditions, copy_rule};
 pub use counts::{left_cells, new_cells};
 pub use defs::{CellShape, Defs, Kind};
 pub use equality::{equal_defs, equal_rule};
