@@ -1,0 +1,12 @@
+pub mod Layers
+pub mod Found
+pub mod Few
+pub mod Roots
+pub mod Numbered
+pub mod Written
+pub mod Siding
+pub mod Counted
+pub mod Sizes
+pub mod Refused
+pub mod Filled
+pub mod Sample

@@ -1,0 +1,5 @@
+pub mod Writing
+pub mod Numbering
+pub mod Completed
+pub mod Rules
+pub mod Sample
