@@ -1,0 +1,6 @@
+pub mod Lists
+pub mod Placing
+pub mod Reading
+pub mod Single
+pub mod Making
+pub mod Outcomes

@@ -1,0 +1,12 @@
+//! Laws of the definitions that contracts cite. The contract of each function is the law.
+ghost use Rattle.cell_contents.specs.Laws.{DeclareOne, HaveNotBoth};
+
+/// Tokens declare one thing at most.
+pub fn declare_one()
+    ensures { DeclareOne }
+{}
+
+/// And never both something and a fault.
+pub fn have_not_both()
+    ensures { HaveNotBoth }
+{}
