@@ -1,0 +1,12 @@
+pub mod Tags
+pub mod Known
+pub mod WrittenCells
+pub mod Sides
+pub mod Listing
+pub mod CellK
+pub mod ReadDrafts
+pub mod StrictDrafts
+pub mod Fitting
+pub mod SoundCells
+pub mod Occurring
+pub mod Events
