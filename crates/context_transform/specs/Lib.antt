@@ -1,0 +1,5 @@
+pub mod Completing
+pub mod Told
+pub mod WrittenRules
+pub mod Assembling
+pub mod Laws
