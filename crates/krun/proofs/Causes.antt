@@ -3,14 +3,16 @@ use Rattle.std.proofs.Common.{◌≡◌, ◌≢◌, ◌↔◌, ◌⊎◌, inl, i
 use Rattle.std.specs.Prelude.{IsSomeAnd}
 use Rattle.live_config.specs.declared.site.Fired.{Fired}
 use Rattle.live_config.specs.Live.{LiveState}
-use Rattle.krun.specs.declared.def_fault.DefFault.{DefFault}
+use Rattle.context_transform.specs.declared.fault.DefFault.{DefFault}
+use Rattle.context_transform.specs.Assembling.{IsDefFault, IsOnlyFault}
+use Rattle.context_transform.specs.Told.{wants_memory}
 use Rattle.program_reader.specs.declared.refusal.ReadRefusal.{ReadRefusal}
 use Rattle.program_reader.specs.declared.refusal.ReadRefusal.TheVariants.{NoReading}
 use Rattle.krun.specs.declared.outcome.Which.TheVariants.{Definition as TheDefinition, Program as TheProgram}
 use Rattle.krun.specs.declared.outcome.Outcome.{Outcome}
 use Rattle.krun.specs.declared.outcome.Outcome.TheVariants.{Final, Budget, Shown, Usage, Definition, Unbuilt, Program, ReadFault, Memory}
-use Rattle.krun.specs.Outcome.{status_of, run_word, is_stop, wants_memory, IsReported}
-use Rattle.krun.specs.Refusals.{IsRefused, HasNoRefusal, IsOnlyRefusal}
+use Rattle.krun.specs.Outcome.{status_of, run_word, is_stop, IsReported}
+use Rattle.krun.specs.Refusals.{HasNoRefusal}
 use Rattle.krun.specs.Headline.{IsRun, Took}
 use Rattle.krun.specs.Causes.{IsJob, IsOfSmallForm, IsDefinition, IsUnbuilt, IsProgram, IsWholeRun}
 
@@ -19,7 +21,7 @@ pub record Refused (words : List (List ℕ)) (definition program : Option (List 
   pub refused : is_stop o ≡ true
   pub usage : (o ≡ Usage) ↔ (IsJob words → ⊥)
   pub definition_fault : o ≡ ReadFault TheDefinition → definition_rose
-  pub of_definition : (fault : DefFault) → o ≡ Definition fault → IfSome definition (λ bytes. IsOnlyRefusal bytes fault)
+  pub of_definition : (fault : DefFault) → o ≡ Definition fault → IfSome definition (λ bytes. IsOnlyFault bytes fault)
   pub never_memory : (fault : DefFault) → o ≡ Definition fault → wants_memory fault ≡ false
   pub unbuilt : o ≡ Unbuilt → IfSome definition IsUnbuilt
   pub program_fault : o ≡ ReadFault TheProgram → IfSome definition IsDefinition × program_rose
@@ -71,7 +73,7 @@ reported words definition program definition_rose program_rose Memory other same
 module _ (words : List (List ℕ)) (bytes : List ℕ) (definition_rose program_rose : Type 0) where
   -- a definition that has a refusal is refused as it says
   pub definition_alone : (program : Option (List ℕ)) (fault : DefFault) (o : Outcome) → Refused words (Some bytes) program definition_rose program_rose o → IsJob words
-      → IsRefused bytes fault → (definition_rose → ⊥) → (o ≡ Definition fault) ⊎ (o ≡ Memory)
+      → IsDefFault bytes fault → (definition_rose → ⊥) → (o ≡ Definition fault) ⊎ (o ≡ Memory)
   definition_alone program fault Usage h job is rose = absurd (h.usage.0 refl job)
   definition_alone program fault (Definition other) h job is rose = inl (ap Definition (sym ((h.of_definition other refl).only fault is)))
   definition_alone program fault Unbuilt h job is rose = absurd ((h.unbuilt refl).accepted fault is)
@@ -87,7 +89,7 @@ module _ (words : List (List ℕ)) (bytes : List ℕ) (definition_rose program_r
   pub unbuilt_alone : (program : Option (List ℕ)) (o : Outcome) → Refused words (Some bytes) program definition_rose program_rose o → IsJob words
       → HasNoRefusal bytes → (IsOfSmallForm bytes → ⊥) → (definition_rose → ⊥) → (o ≡ Unbuilt) ⊎ (o ≡ Memory)
   unbuilt_alone program Usage h job accepted none rose = absurd (h.usage.0 refl job)
-  unbuilt_alone program (Definition fault) h job accepted none rose = absurd (accepted fault (h.of_definition fault refl).refused)
+  unbuilt_alone program (Definition fault) h job accepted none rose = absurd (accepted fault (h.of_definition fault refl).is)
   unbuilt_alone program Unbuilt h job accepted none rose = inl refl
   unbuilt_alone program (Program cause) h job accepted none rose = absurd (none (h.no_reading cause refl).1.0.small)
   unbuilt_alone program (ReadFault TheDefinition) h job accepted none rose = absurd (rose (h.definition_fault refl))
@@ -101,7 +103,7 @@ module _ (words : List (List ℕ)) (bytes : List ℕ) (definition_rose program_r
   pub no_reading_alone : (text : List ℕ) (o : Outcome) → Refused words (Some bytes) (Some text) definition_rose program_rose o → IsJob words
       → IsDefinition bytes → (definition_rose → ⊥) → (program_rose → ⊥) → (o ≡ Program (NoReading 0)) ⊎ (o ≡ Memory)
   no_reading_alone text Usage h job read rose program_rose = absurd (h.usage.0 refl job)
-  no_reading_alone text (Definition fault) h job read rose program_rose = absurd (read.accepted fault (h.of_definition fault refl).refused)
+  no_reading_alone text (Definition fault) h job read rose program_rose = absurd (read.accepted fault (h.of_definition fault refl).is)
   no_reading_alone text Unbuilt h job read rose program_rose = absurd ((h.unbuilt refl).other_form read.small)
   no_reading_alone text (Program cause) h job read rose program_rose = inl (ap Program (h.no_reading cause refl).0)
   no_reading_alone text (ReadFault TheDefinition) h job read rose program_rose = absurd (rose (h.definition_fault refl))
@@ -145,12 +147,12 @@ run_read definition program o outcome fired end text ended run = by_word (run_wo
 module _ (words : List (List ℕ)) (definition_rose program_rose : Type 0) (o : Outcome) where
   -- the refusal itself, without that it is the only one
   pub refused_definition : (definition program : Option (List ℕ)) (fault : DefFault) → Refused words definition program definition_rose program_rose o
-      → o ≡ Definition fault → IfSome definition (λ bytes. IsRefused bytes fault)
+      → o ≡ Definition fault → IfSome definition (λ bytes. IsDefFault bytes fault)
   refused_definition None program fault h is = tt
-  refused_definition (Some bytes) program fault h is = (h.of_definition fault is).refused
+  refused_definition (Some bytes) program fault h is = (h.of_definition fault is).is
 
   pub refused_definition_where : (definition program : Option (List ℕ)) (fault : DefFault) → Refused words definition program definition_rose program_rose o → IsJob words
-      → IfSome definition (λ bytes. IsRefused bytes fault → (definition_rose → ⊥) → (o ≡ Definition fault) ⊎ (o ≡ Memory))
+      → IfSome definition (λ bytes. IsDefFault bytes fault → (definition_rose → ⊥) → (o ≡ Definition fault) ⊎ (o ≡ Memory))
   refused_definition_where None program fault h job = tt
   refused_definition_where (Some bytes) program fault h job = definition_alone words bytes definition_rose program_rose program fault o h job
 
@@ -171,7 +173,7 @@ module _ (words : List (List ℕ)) (definition_rose program_rose : Type 0) (o : 
   refused_complete (Some bytes) None C W h job = tt
   refused_complete (Some bytes) (Some text) C W h job = λ is no_fault no_program_fault _. inl (memory_alone words bytes definition_rose program_rose text o h job is no_fault no_program_fault)
 
-pub ran_definition : (definition program : Option (List ℕ)) (fault : DefFault) (A B : Type 0) → HasRead definition program → IfSome definition (λ bytes. IsRefused bytes fault → A → B)
+pub ran_definition : (definition program : Option (List ℕ)) (fault : DefFault) (A B : Type 0) → HasRead definition program → IfSome definition (λ bytes. IsDefFault bytes fault → A → B)
 ran_definition None program fault A B read = tt
 ran_definition (Some bytes) program fault A B read = λ is _. absurd (read.0.accepted fault is)
 

@@ -1,15 +1,17 @@
 -- When each refusal comes.
-use Rattle.std.specs.Prelude.{◌≡◌, ℕ, ◌+◌, List, length, Option, codes, IsSomeAnd}
+use Rattle.std.specs.Prelude.{◌≡◌, ℕ, ◌+◌, List, length, Option, false, codes, IsSomeAnd}
 use Rattle.k_terms.specs.declared.value.Value.{Value}
 use Rattle.small_form.specs.declared.small.Small.{Small}
 use Rattle.small_form.specs.Small.{IsSmallText}
 use Rattle.small_form.specs.Program.{IsTermText}
 use Rattle.live_config.specs.declared.site.Fired.{Fired}
 use Rattle.live_config.specs.Live.{LiveState}
+use Rattle.context_transform.specs.Assembling.{IsOnlyFault}
+use Rattle.context_transform.specs.Told.{wants_memory}
 use Rattle.krun.specs.declared.outcome.Outcome.{Outcome}
 use Rattle.krun.specs.Outcome.{status_of, run_word}
 use Rattle.krun.specs.declared.outcome.Outcome.TheVariants.{Definition, Unbuilt, Memory}
-use Rattle.krun.specs.Refusals.{HasNoRefusal, IsOnlyRefusal}
+use Rattle.krun.specs.Refusals.{HasNoRefusal}
 use Rattle.krun.specs.Headline.{word_at, IsRun, Took}
 
 -- the words ask for a mode: the program's name, the mode, and the names of so many files
@@ -37,7 +39,7 @@ pub record IsUnbuilt (bytes : List ℕ) : Type 0 where
 
 -- why the bytes of a definition are read and no definition is given
 abbrev pub IsCauseOf : List ℕ → Outcome → Type 0
-IsCauseOf bytes (Definition fault) = IsOnlyRefusal bytes fault
+IsCauseOf bytes (Definition fault) = IsOnlyFault bytes fault × (wants_memory fault ≡ false)
 IsCauseOf bytes Unbuilt = IsUnbuilt bytes
 IsCauseOf bytes Memory = Unit {0}
 IsCauseOf bytes _ = ⊥

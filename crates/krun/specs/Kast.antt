@@ -1,59 +1,21 @@
 -- What `kast` answers: the term of a program, or why there is none.
-use Rattle.std.specs.Prelude.{◌≡◌, ℕ, ◌<◌, ◌≤◌, false, List, length, Option, IfSome, codes}
+use Rattle.std.specs.Prelude.{◌≡◌, ℕ, ◌≤◌, List, length, Option, IfSome, codes}
 use Rattle.k_terms.specs.declared.value.Value.{Value}
 use Rattle.program_reader.specs.Programs.{IsProgram, IsRefused as IsProgramRefused, IsLike}
-use Rattle.program_syntax.specs.declared.syntax.ProgramSyntax.{ProgramSyntax}
-use Rattle.program_syntax.specs.declared.fault.SyntaxFault.{SyntaxFault}
-use Rattle.program_syntax.specs.declared.fault.SyntaxFault.TheVariants.{Lex as LexOf, Module as ModuleOf, Sort as SortOf, NoCell, Memory as NoSyntaxMemory}
-use Rattle.program_syntax.specs.Syntaxes.{IsSyntax, IsSyntaxFault}
 use Rattle.program_answer.specs.declared.answer.Answer.{Answer}
 use Rattle.program_answer.specs.declared.answer.Answer.TheVariants.{Shown as TermShown, Refused}
 use Rattle.program_answer.specs.Answers.{IsTold}
-use Rattle.krun.specs.declared.def_fault.DefFault.{DefFault}
-use Rattle.krun.specs.declared.def_fault.DefFault.TheVariants.{TooBig, Lex, Module, Sort, Strict, Rule, Memory}
+use Rattle.context_transform.specs.declared.assembling.Assembly.{Assembly}
+use Rattle.context_transform.specs.Assembling.{IsAssembly}
 use Rattle.krun.specs.declared.outcome.Outcome.{Outcome}
-use Rattle.krun.specs.declared.outcome.Outcome.TheVariants.{Shown, Definition, Unbuilt, Program, ReadFault, Memory as NoMemoryLeft}
-use Rattle.krun.specs.declared.outcome.Which.TheVariants.{Definition as TheDefinition, Program as TheProgram}
-use Rattle.krun.specs.Outcome.{wants_memory}
-use Rattle.krun.specs.Refusals.{def_limit}
+use Rattle.krun.specs.declared.outcome.Outcome.TheVariants.{Shown, Program, ReadFault}
+use Rattle.krun.specs.declared.outcome.Which.TheVariants.{Program as TheProgram}
+use Rattle.krun.specs.Assembled.{FileDefines, IsUndefined}
 use Rattle.krun.specs.Causes.{AskFor}
 
 -- the words ask for `kast`, and so for the term of a program
 abbrev pub IsKast : List (List ℕ) → Type 0
 IsKast words = AskFor words (codes "kast") 2
-
--- Why the bytes of a definition are refused: they are too many, or have a fault of tokens, modules, or sorts and productions.
-abbrev pub IsFaulty : List ℕ → DefFault → Type 0
-IsFaulty bytes (TooBig limit) = (def_limit < length bytes) × (limit ≡ def_limit)
-IsFaulty bytes (Lex fault) = (length bytes ≤ def_limit) × IsSyntaxFault bytes (LexOf fault)
-IsFaulty bytes (Module fault) = (length bytes ≤ def_limit) × IsSyntaxFault bytes (ModuleOf fault)
-IsFaulty bytes (Sort fault) = (length bytes ≤ def_limit) × IsSyntaxFault bytes (SortOf fault)
-IsFaulty bytes (Strict fault) = ⊥
-IsFaulty bytes (Rule refusal) = ⊥
-IsFaulty bytes Memory = ⊥
-
--- the bytes of a definition say this of programs
-pub record Says (bytes : List ℕ) (syntax : ProgramSyntax) : Type 0 where
-  pub short : length bytes ≤ def_limit
-  pub is : IsSyntax bytes syntax
-
--- why the bytes of a definition say nothing of programs
-abbrev pub IsNothing : List ℕ → Outcome → Type 0
-IsNothing bytes (Definition fault) = IsFaulty bytes fault
-IsNothing bytes Unbuilt = (length bytes ≤ def_limit) × IsSyntaxFault bytes NoCell
-IsNothing bytes _ = ⊥
-
--- they say this alone, and nothing is wrong with them
-pub record SaysOnly (bytes : List ℕ) (syntax : ProgramSyntax) : Type 0 where
-  pub says : Says bytes syntax
-  pub only : (other : ProgramSyntax) → Says bytes other → other ≡ syntax
-  pub no_fault : (other : Outcome) → IsNothing bytes other → ⊥
-
--- this alone is wrong with them, and they say nothing
-pub record IsOnlyNothing (bytes : List ℕ) (outcome : Outcome) : Type 0 where
-  pub is : IsNothing bytes outcome
-  pub only : (other : Outcome) → IsNothing bytes other → other ≡ outcome
-  pub says_none : (syntax : ProgramSyntax) → Says bytes syntax → ⊥
 
 -- what an answer is told as
 abbrev pub told_answer : Answer → Outcome
@@ -69,42 +31,27 @@ pub record IsReadOf (file bytes : List ℕ) : Type 0 where
   pub whole : length bytes ≤ program_limit → bytes ≡ file
   pub all : length file ≤ program_limit → bytes ≡ file
 
--- a file holds a definition that says this alone of programs, where the file is told
-abbrev pub FileSays : Option (List ℕ) → ProgramSyntax → Type 0
-FileSays file syntax = IfSome file (λ bytes. SaysOnly bytes syntax)
-
 -- the answer of two files, with its text
 pub record IsAnswer (definition program : Option (List ℕ)) (outcome : Outcome) (text : List ℕ) : Type 0 where
-  pub syntax : ProgramSyntax
-  pub says : FileSays definition syntax
+  pub assembly : Assembly
+  pub defines : FileDefines definition assembly
   pub answer : Answer
   pub is : outcome ≡ told_answer answer
-  pub told : IfSome program (λ bytes. IsTold syntax bytes answer text)
+  pub told : IfSome program (λ bytes. IsTold assembly.grammar assembly.names assembly.tree.sort bytes answer text)
 
--- Why there is no answer: the definition says nothing of programs; a file could not be read, that of the program only after a
--- definition that says something; or memory was wanting.
+-- Why there is no answer: the definition's file defines nothing; or the program's could not be read, behind a definition.
 abbrev pub IsStopped : Option (List ℕ) → Type 0 → Type 0 → Outcome → Type 0
-IsStopped definition definition_rose program_rose (Definition fault) = IfSome definition (λ bytes. IsOnlyNothing bytes (Definition fault)) × (wants_memory fault ≡ false)
-IsStopped definition definition_rose program_rose Unbuilt = IfSome definition (λ bytes. IsOnlyNothing bytes Unbuilt)
-IsStopped definition definition_rose program_rose (ReadFault TheDefinition) = definition_rose
-IsStopped definition definition_rose program_rose (ReadFault TheProgram) = ((syntax : ProgramSyntax) × FileSays definition syntax) × program_rose
-IsStopped definition definition_rose program_rose NoMemoryLeft = Unit {0}
-IsStopped definition definition_rose program_rose _ = ⊥
-
--- what a fault is told as
-abbrev pub told_fault : SyntaxFault → Outcome
-told_fault (LexOf fault) = Definition (Lex fault)
-told_fault (ModuleOf fault) = Definition (Module fault)
-told_fault (SortOf fault) = Definition (Sort fault)
-told_fault NoCell = Unbuilt
-told_fault NoSyntaxMemory = NoMemoryLeft
+IsStopped definition definition_rose program_rose (ReadFault TheProgram) = ((assembly : Assembly) × FileDefines definition assembly) × program_rose
+IsStopped definition definition_rose program_rose o = IsUndefined definition definition_rose o
 
 -- what must be answered for two files
 abbrev pub Answers : List ℕ → List ℕ → Outcome → Type 0
 Answers definition program Shown =
-    (syntax : ProgramSyntax) × (after : List (List ℕ)) × (value : Value) × Says definition syntax × IsProgram syntax.grammar syntax.names syntax.sort program after value
+    (assembly : Assembly) × (after : List (List ℕ)) × (value : Value) × IsAssembly definition assembly
+    × IsProgram assembly.grammar assembly.names assembly.tree.sort program after value
 Answers definition program (Program refusal) =
-    (syntax : ProgramSyntax) × (after : List (List ℕ)) × Says definition syntax × IsProgramRefused syntax.grammar syntax.names syntax.sort program after refusal
+    (assembly : Assembly) × (after : List (List ℕ)) × IsAssembly definition assembly
+    × IsProgramRefused assembly.grammar assembly.names assembly.tree.sort program after refusal
 Answers definition program _ = ⊥
 
 -- the same outcome, or refusals of a program that are alike

@@ -3,5 +3,6 @@ pub mod Outcome
 pub mod Refusals
 pub mod Headline
 pub mod Causes
+pub mod Assembled
 pub mod Kast
 pub mod Rules

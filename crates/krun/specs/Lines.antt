@@ -5,8 +5,12 @@ use Rattle.k_lexer.specs.declared.fault.LexFault.{LexFault}
 use Rattle.k_lexer.specs.declared.fault.LexFault.TheVariants.{BadByte, OpenString, OpenComment, Memory as LexMemory}
 use Rattle.module_reader.specs.declared.fault.ModuleFault.{ModuleFault}
 use Rattle.module_reader.specs.declared.fault.ModuleFault.TheVariants.{Expected, NoModule, ImportCycle, TwoModules, Memory as ModuleMemory}
-use Rattle.krun.specs.declared.def_fault.DefFault.{DefFault}
-use Rattle.krun.specs.declared.def_fault.DefFault.TheVariants.{TooBig, Lex, Module, Sort, Strict, Rule, Memory}
+use Rattle.context_transform.specs.declared.fault.DefFault.{DefFault}
+use Rattle.context_transform.specs.declared.fault.DefFault.TheVariants.{TooBig, Lex, Module, Sort, Strict, Cell, TooMany as TooManyRules, Rule, Complete, Memory}
+use Rattle.context_transform.specs.declared.fault.CellsUnclear.{CellsUnclear}
+use Rattle.context_transform.specs.declared.fault.CellsUnclear.TheVariants.{CellMisplaced, Unclear, TooMany as TooManyInRule, Memory as UnclearMemory}
+use Rattle.cell_config.specs.declared.refusal.CellRefusal.{CellRefusal}
+use Rattle.cell_config.specs.declared.refusal.CellRefusal.TheVariants.{TwoCells, NoK, CellContent, TooMany as TooManyCells, Memory as CellMemory}
 use Rattle.sorted_grammar.specs.declared.fault.What.{What}
 use Rattle.sorted_grammar.specs.declared.fault.What.TheVariants.{Sorts, Productions, Rules, Cells, RuleTokens, PatternCells, NewCells}
 use Rattle.sorted_grammar.specs.declared.fault.SortFault.{SortFault}
@@ -50,8 +54,12 @@ what_word RuleTokens = codes "rule tokens"
 what_word PatternCells = codes "pattern cells"
 what_word NewCells = codes "new cells"
 
+-- what there is too much of
+abbrev pub counted : What → ℕ → List ℕ
+counted what n = codes "definition 11 TooMany what=" ++ what_word what ++ codes " n=" ++ decimal n ++ line_end
+
 abbrev pub sort_line : SortFault → List ℕ
-sort_line (TooMany what n) = codes "definition 11 TooMany what=" ++ what_word what ++ codes " n=" ++ decimal n ++ line_end
+sort_line (TooMany what n) = counted what n
 sort_line (NoSort name) = named (codes "definition 8 NoSort name=") name
 sort_line (SubsortCycle sort) = named (codes "definition 9 SubsortCycle sort=") sort
 sort_line (CyclicProduction p) = numbered (codes "definition 10 CyclicProduction prod=") p
@@ -84,6 +92,20 @@ rule_fault_line rule (PatternForm at) = rule_numbered (codes "definition 20 Patt
 rule_fault_line rule (NotBoundLeft var) = rule_named (codes "definition 19 NotBoundLeft") rule var
 rule_fault_line rule RuleMemory = []
 
+abbrev pub cell_refusal_line : CellRefusal → List ℕ
+cell_refusal_line (TwoCells name) = named (codes "definition 22 TwoCells name=") name
+cell_refusal_line NoK = codes "definition 23 NoK" ++ line_end
+cell_refusal_line (CellContent name) = named (codes "definition 24 CellContent name=") name
+cell_refusal_line (TooManyCells n) = counted Cells n
+cell_refusal_line CellMemory = []
+
+-- rules are told by their numbers
+abbrev pub unclear_line : CellsUnclear → List ℕ
+unclear_line (CellMisplaced rule cell) = codes "definition 26 CellMisplaced rule=" ++ decimal rule ++ codes " cell=" ++ cell ++ line_end
+unclear_line (Unclear rule) = numbered (codes "definition 25 Unclear rule=") rule
+unclear_line (TooManyInRule what n) = counted what n
+unclear_line UnclearMemory = []
+
 -- want of memory is no refusal, and has no line
 abbrev pub fault_line : DefFault → List ℕ
 fault_line (TooBig bytes) = numbered (codes "definition 27 TooBig bytes=") bytes
@@ -91,5 +113,8 @@ fault_line (Lex fault) = lex_line fault
 fault_line (Module fault) = module_line fault
 fault_line (Sort fault) = sort_line fault
 fault_line (Strict fault) = strict_line fault
+fault_line (Cell refusal) = cell_refusal_line refusal
+fault_line (TooManyRules what n) = counted what n
 fault_line (Rule refusal) = rule_fault_line refusal.at refusal.fault
+fault_line (Complete why) = unclear_line why
 fault_line Memory = []

@@ -1,13 +1,7 @@
 -- The status and the text of each outcome.
 use Rattle.std.specs.Prelude.{◌≡◌, ◌⊎◌, ℕ, Bool, true, false, List, [], ◌++◌, Option, Some, None, codes}
-use Rattle.k_lexer.specs.declared.fault.LexFault.TheVariants.{Memory as LexMemory}
-use Rattle.module_reader.specs.declared.fault.ModuleFault.TheVariants.{Memory as ModuleMemory}
-use Rattle.krun.specs.declared.def_fault.DefFault.{DefFault}
-use Rattle.krun.specs.declared.def_fault.DefFault.TheVariants.{Lex, Module, Sort, Strict, Rule, Memory as DefMemory}
-use Rattle.sorted_grammar.specs.declared.fault.SortFault.TheVariants.{Memory as SortMemory}
-use Rattle.strictness.specs.declared.fault.StrictFault.TheVariants.{Memory as StrictMemory}
-use Rattle.rule_reader.specs.declared.refusal.RuleRefusal.{RuleRefusal}
-use Rattle.rule_reader.specs.Told.{is_memory}
+use Rattle.context_transform.specs.declared.fault.DefFault.{DefFault}
+use Rattle.context_transform.specs.declared.fault.DefFault.TheVariants.{Memory as DefMemory}
 use Rattle.program_reader.specs.declared.refusal.ReadRefusal.TheVariants.{NoReading}
 use Rattle.krun.specs.declared.outcome.Outcome.{Outcome}
 use Rattle.krun.specs.declared.outcome.Outcome.TheVariants.{Final, Budget, Shown, Usage, Definition, Unbuilt, Program, ReadFault, Memory}
@@ -49,16 +43,6 @@ is_stop Final = false
 is_stop Budget = false
 is_stop Shown = false
 is_stop _ = true
-
--- memory was wanting, and nothing is wrong with the definition
-abbrev pub wants_memory : DefFault → Bool
-wants_memory DefMemory = true
-wants_memory (Lex LexMemory) = true
-wants_memory (Module ModuleMemory) = true
-wants_memory (Sort SortMemory) = true
-wants_memory (Strict StrictMemory) = true
-wants_memory (Rule refusal) = is_memory refusal.fault
-wants_memory _ = false
 
 -- the outcome of a call whose definition has this fault
 abbrev pub outcome_of : DefFault → Outcome

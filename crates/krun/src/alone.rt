@@ -2,13 +2,16 @@
 ghost use Rattle.std.specs.Prelude.{◌≡◌, ◌≢◌, ◌↔◌, ◌⊎◌, [], List, ℕ, Some, None, map, string_bytes, length, true, false, IfSome};
 ghost use Rattle.k_edge.specs.Faults.{Rose};
 ghost use Rattle.whole_files.specs.Writing.{AppendsFront};
-ghost use Rattle.krun.specs.Outcome.{status_of, text_of, run_word, is_stop, is_answer, wants_memory};
-ghost use Rattle.krun.specs.Refusals.{IsRefused, HasNoRefusal};
+ghost use Rattle.krun.specs.Outcome.{status_of, text_of, run_word, is_stop, is_answer};
+ghost use Rattle.context_transform.specs.Told.{wants_memory};
+ghost use Rattle.krun.specs.Refusals.{HasNoRefusal};
 ghost use Rattle.krun.specs.Headline.{word_at, caller_fired, IsRun, Took};
 ghost use Rattle.krun.specs.Causes.{IsJob, IsDefinition, IsUnbuilt, IsOfSmallForm, IsProgram, IsWholeRun};
-ghost use Rattle.krun.specs.Kast.{IsKast, IsAnswer, IsStopped, IsNothing, Answers, AreAlike};
-ghost use Rattle.krun.specs.Rules.{IsRules, ListsOnly, HasNone, MustList};
-ghost use Rattle.krun.specs.declared.def_fault.DefFault.{DefFault as Fault};
+ghost use Rattle.context_transform.specs.Assembling.{IsDefFault};
+ghost use Rattle.krun.specs.Assembled.{IsUndefined};
+ghost use Rattle.krun.specs.Kast.{IsKast, IsAnswer, IsStopped, Answers, AreAlike};
+ghost use Rattle.krun.specs.Rules.{IsRules, ListsOnly, MustList};
+ghost use Rattle.context_transform.specs.declared.fault.DefFault.{DefFault as Fault};
 ghost use Rattle.krun.specs.declared.outcome.Outcome.{Outcome as AnOutcome};
 ghost use Rattle.krun.specs.declared.outcome.Outcome.TheVariants.{Usage as WantOfWords, Definition as DefinitionRefused, Unbuilt as NotOfSmallForm, Program as ProgramRefused, Memory as WantOfMemory, ReadFault as FaultOf, Shown as WasShown};
 ghost use Rattle.program_reader.specs.declared.refusal.ReadRefusal.{ReadRefusal};
@@ -25,8 +28,9 @@ use std::alloc::Global;
 
 /// `run` reads a definition and a program, rewrites the program by the definition's rules, at most 100,000 times, and writes
 /// the outcome, the number of firings and the configuration reached. `kast` reads both, and writes the term that the program
-/// is. `rules` reads a definition, and writes a line for each of its rules. Each writes the line of a refusal instead. Where a file can't be read or memory is wanting, nothing is written. Where
-/// the text can't be written, the status is 6, and the outcome says what would have been written.
+/// is. `rules` reads a definition, and writes a line for each of its rules. Each writes the line of a refusal instead; all three
+/// refuse a definition alike. Where a file can't be read or memory is wanting, nothing is written. Where the text can't be
+/// written, the status is 6, and the outcome says what would have been written.
 pub fn krun_alone<H: Shelf, O: Sink>(
     alloc: Global,
     words: &[String],
@@ -51,7 +55,7 @@ pub fn krun_alone<H: Shelf, O: Sink>(
     ensures definition_fault { result.outcome ≡ FaultOf TheDefinition →
         Rose (H.faults shelf.old (word_at (map string_bytes words.now) 2)) (H.faults shelf.new (word_at (map string_bytes words.now) 2)) }
     ensures definition { IsJob (map string_bytes words.now) → (fault : Fault) → result.outcome ≡ DefinitionRefused fault →
-        IfSome (H.told shelf.old (word_at (map string_bytes words.now) 2)) (λ definition. IsRefused definition fault) }
+        IfSome (H.told shelf.old (word_at (map string_bytes words.now) 2)) (λ definition. IsDefFault definition fault) }
     ensures never_memory { (fault : Fault) → result.outcome ≡ DefinitionRefused fault → wants_memory fault ≡ false }
     ensures unbuilt { IsJob (map string_bytes words.now) → result.outcome ≡ NotOfSmallForm →
         IfSome (H.told shelf.old (word_at (map string_bytes words.now) 2)) IsUnbuilt }
@@ -66,7 +70,7 @@ pub fn krun_alone<H: Shelf, O: Sink>(
     // Where a file is told and no count rose, its refusal comes exactly where it has the cause, and else the run is whole;
     // only memory may be wanting.
     ensures definition_where { (fault : Fault) → IsJob (map string_bytes words.now) → IfSome (H.told shelf.old (word_at (map string_bytes words.now) 2)) (λ definition.
-        IsRefused definition fault →
+        IsDefFault definition fault →
         (Rose (H.faults shelf.old (word_at (map string_bytes words.now) 2)) (H.faults shelf.new (word_at (map string_bytes words.now) 2)) → ⊥) →
         (result.outcome ≡ DefinitionRefused fault) ⊎ (result.outcome ≡ WantOfMemory)) }
     ensures unbuilt_where { IsJob (map string_bytes words.now) → IfSome (H.told shelf.old (word_at (map string_bytes words.now) 2)) (λ definition.
@@ -97,9 +101,9 @@ pub fn krun_alone<H: Shelf, O: Sink>(
         (Rose (H.faults shelf.old (word_at (map string_bytes words.now) 2)) (H.faults shelf.new (word_at (map string_bytes words.now) 2)))
         (Rose (H.faults shelf.old (word_at (map string_bytes words.now) 3)) (H.faults shelf.new (word_at (map string_bytes words.now) 3))) result.outcome }
     ensures kast_nothing_where { IsKast (map string_bytes words.now) → IfSome (H.told shelf.old (word_at (map string_bytes words.now) 2)) (λ definition.
-        (o : AnOutcome) → IsNothing definition o →
+        (fault : Fault) → IsDefFault definition fault →
         (Rose (H.faults shelf.old (word_at (map string_bytes words.now) 2)) (H.faults shelf.new (word_at (map string_bytes words.now) 2)) → ⊥) →
-        (result.outcome ≡ o) ⊎ (result.outcome ≡ WantOfMemory)) }
+        (result.outcome ≡ DefinitionRefused fault) ⊎ (result.outcome ≡ WantOfMemory)) }
     ensures kast_where { IsKast (map string_bytes words.now) → IfSome (H.told shelf.old (word_at (map string_bytes words.now) 2)) (λ definition.
         IfSome (H.told shelf.old (word_at (map string_bytes words.now) 3)) (λ program.
         (o : AnOutcome) → Answers definition program o →
@@ -113,7 +117,7 @@ pub fn krun_alone<H: Shelf, O: Sink>(
         × (result.status ≢ 6 → Took (O.taken out.old) (O.taken out.new) lines)
         × (result.status ≡ 6 → AppendsFront (O.taken out.old) (O.taken out.new) lines) }
     ensures rules_stop { IsRules (map string_bytes words.now) → result.outcome ≢ WasShown →
-        HasNone (H.told shelf.old (word_at (map string_bytes words.now) 2))
+        IsUndefined (H.told shelf.old (word_at (map string_bytes words.now) 2))
         (Rose (H.faults shelf.old (word_at (map string_bytes words.now) 2)) (H.faults shelf.new (word_at (map string_bytes words.now) 2))) result.outcome }
     ensures rules_where { IsRules (map string_bytes words.now) → IfSome (H.told shelf.old (word_at (map string_bytes words.now) 2)) (λ definition.
         (o : AnOutcome) → MustList definition o →

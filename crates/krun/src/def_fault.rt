@@ -1,52 +1,42 @@
+//! The lines of the refusals of definitions.
 ghost use Rattle.std.specs.Prelude.{◌≡◌, ◌++◌, IfOk};
 ghost use Rattle.std.specs.Fmt.{decimal};
-ghost use Rattle.krun.specs.Lines.{line_end, lex_line, module_line, sort_line, what_word, fault_line};
+ghost use Rattle.krun.specs.Lines.{line_end, lex_line, module_line, sort_line, what_word, counted, fault_line};
 
+use crate::cell_fault::{line_of_cell_refusal, line_of_unclear_cells};
 use crate::rule_fault::{line_of_refusal, line_of_strict_fault};
+use context_transform::DefFault;
 use k_lexer::LexFault;
 use k_terms::Memory;
 use module_reader::ModuleFault;
-use rule_reader::RuleRefusal;
 use sorted_grammar::{SortFault, What};
 use std::alloc::Global;
-use strictness::StrictFault;
 
-/// Why a definition was refused, in the order in which it is tried.
-#[derive(Debug, Drop, PartialEq, Eq)]
-pub enum DefFault {
-    /// It has more than this many bytes.
-    TooBig { bytes: u64 },
-    /// Its bytes have no tokens.
-    Lex(LexFault),
-    /// Its tokens are no modules that can be put together.
-    Module(ModuleFault),
-    /// Its sentences have no grammar.
-    Sort(SortFault),
-    /// A production may not be strict as it says.
-    Strict(StrictFault),
-    /// A rule is none.
-    Rule(RuleRefusal),
-    /// Memory was wanting.
-    Memory,
+/// The line that the refusal of a definition writes.
+pub fn line_of_fault(alloc: Global, fault: &DefFault) -> Result<Vec<u8>, Memory>
+    ensures { IfOk result (λ line. line.items ≡ fault_line fault.now) }
+{
+    match fault {
+        DefFault::TooBig { bytes } => numbered_line(alloc, "definition 27 TooBig bytes=", *bytes),
+        DefFault::Lex(fault) => line_of_lex_fault(alloc, *fault),
+        DefFault::Module(fault) => line_of_module_fault(alloc, fault),
+        DefFault::Sort(fault) => line_of_sort_fault(alloc, fault),
+        DefFault::Strict(fault) => line_of_strict_fault(alloc, *fault),
+        DefFault::Cell(refusal) => line_of_cell_refusal(alloc, refusal),
+        DefFault::TooMany { what, n } => count_line(alloc, *what, *n),
+        DefFault::Rule(refusal) => line_of_refusal(alloc, refusal),
+        DefFault::Complete(refusal) => line_of_unclear_cells(alloc, refusal),
+        DefFault::Memory => Ok(Vec::new(alloc)),
+    }
 }
 
-impl DefFault {
-    /// The line that the refusal writes.
-    pub fn line(&self, alloc: Global) -> Result<Vec<u8>, Memory>
-        ensures { IfOk result (λ line. line.items ≡ fault_line self.now) }
-    {
-        match self {
-            DefFault::TooBig { bytes } => {
-                numbered_line(alloc, "definition 27 TooBig bytes=", *bytes)
-            }
-            DefFault::Lex(fault) => line_of_lex_fault(alloc, *fault),
-            DefFault::Module(fault) => line_of_module_fault(alloc, fault),
-            DefFault::Sort(fault) => line_of_sort_fault(alloc, fault),
-            DefFault::Strict(fault) => line_of_strict_fault(alloc, *fault),
-            DefFault::Rule(refusal) => line_of_refusal(alloc, refusal),
-            DefFault::Memory => Ok(Vec::new(alloc)),
-        }
-    }
+/// The line of what there is too much of.
+pub(crate) fn count_line(alloc: Global, what: What, n: u64) -> Result<Vec<u8>, Memory>
+    ensures { IfOk result (λ line. line.items ≡ counted what n) }
+{
+    let word = word_of_what(what);
+    let line = format!(in alloc; "definition 11 TooMany what={word} n={n}\n")?;
+    Ok(Vec::from_slice(alloc, line.as_bytes())?)
 }
 
 /// The line of a fault of the tokens.
@@ -106,11 +96,7 @@ fn line_of_sort_fault(alloc: Global, fault: &SortFault) -> Result<Vec<u8>, Memor
     ensures { IfOk result (λ line. line.items ≡ sort_line fault.now) }
 {
     match fault {
-        SortFault::TooMany { what, n } => {
-            let word = word_of_what(*what);
-            let line = format!(in alloc; "definition 11 TooMany what={word} n={n}\n")?;
-            Ok(Vec::from_slice(alloc, line.as_bytes())?)
-        }
+        SortFault::TooMany { what, n } => count_line(alloc, *what, *n),
         SortFault::NoSort { name } => {
             named_line(alloc, "definition 8 NoSort name=", name.as_slice())
         }
@@ -133,7 +119,7 @@ pub fn numbered_line(alloc: Global, text: &str, number: u64) -> Result<Vec<u8>, 
 }
 
 /// A line of a text and a name.
-fn named_line(alloc: Global, text: &str, name: &[u8]) -> Result<Vec<u8>, Memory>
+pub(crate) fn named_line(alloc: Global, text: &str, name: &[u8]) -> Result<Vec<u8>, Memory>
     ensures { IfOk result (λ line. line.items ≡ text.now ++ name.now ++ line_end) }
 {
     let mut line = Vec::from_slice(alloc, text.as_bytes())?;

@@ -4,63 +4,23 @@ ghost use Rattle.k_edge.specs.Faults.{Rose};
 ghost use Rattle.whole_files.specs.Writing.{AppendsFront};
 ghost use Rattle.krun.specs.Outcome.{status_of, text_of, is_answer};
 ghost use Rattle.krun.specs.Headline.{Took};
-ghost use Rattle.krun.specs.Kast.{SaysOnly, IsOnlyNothing, FileSays, IsAnswer, IsStopped, IsReadOf, told_fault, told_answer};
+ghost use Rattle.krun.specs.Kast.{IsAnswer, IsStopped, IsReadOf, told_answer};
 ghost use Rattle.krun.specs.declared.outcome.Outcome.TheVariants.{Memory as WantOfMemory, ReadFault as FaultOf};
 ghost use Rattle.krun.specs.declared.outcome.Which.TheVariants.{Program as TheProgram};
 
-use crate::def_fault::DefFault;
-use crate::definition::definition_bytes;
+use crate::assembled::assembly_at;
 use crate::file::file_bytes;
 use crate::job::Job;
 use crate::outcome::{Outcome, Which};
 use crate::report::Report;
 use crate::top::{refused, report_refusal, status_after};
+use context_transform::Assembly;
 use k_edge::{Shelf, Sink};
 use program_answer::{Answer, Told, answer_text};
-use program_syntax::{ProgramSyntax, SyntaxFault, read_syntax};
 use std::alloc::Global;
 
 /// The greatest length of a program, in bytes.
 const PROGRAM_LIMIT: usize = 65_536;
-
-/// The outcome of a definition that says nothing of programs.
-pub(crate) fn outcome_of(fault: SyntaxFault) -> Outcome
-    ensures { result ≡ told_fault fault }
-{
-    match fault {
-        SyntaxFault::Lex(fault) => Outcome::Definition(DefFault::Lex(fault)),
-        SyntaxFault::Module(fault) => Outcome::Definition(DefFault::Module(fault)),
-        SyntaxFault::Sort(fault) => Outcome::Definition(DefFault::Sort(fault)),
-        SyntaxFault::NoCell => Outcome::Unbuilt,
-        SyntaxFault::Memory => Outcome::Memory,
-    }
-}
-
-/// What the bytes of a definition say of programs.
-fn syntax_of(alloc: Global, bytes: &[u8]) -> Result<ProgramSyntax, Outcome>
-    requires { length bytes.now ≤ 1048576 }
-    ensures ok { IfOk result (SaysOnly bytes.now) }
-    ensures stop { IfErr result (λ stop. (stop ≡ WantOfMemory) ⊎ IsOnlyNothing bytes.now stop) }
-{
-    match read_syntax(alloc, bytes) {
-        Ok(syntax) => Ok(syntax),
-        Err(fault) => Err(outcome_of(fault)),
-    }
-}
-
-/// What the definition that a file holds says of programs.
-fn syntax_at<H: Shelf>(alloc: Global, shelf: &mut H, name: &str) -> Result<ProgramSyntax, Outcome>
-    ensures kept { (other : List ℕ) → H.told shelf.new other ≡ H.told shelf.old other }
-    ensures later { (other : List ℕ) → H.faults shelf.old other ≤ H.faults shelf.new other }
-    ensures ok { IfOk result (FileSays (H.told shelf.old name.now)) }
-    ensures stop { IfErr result (IsStopped (H.told shelf.old name.now) (Rose (H.faults shelf.old name.now) (H.faults shelf.new name.now)) ⊥) }
-{
-    let bytes = match definition_bytes(alloc, shelf, name) {
-        Ok(bytes) => bytes,
-        Err(stop) => return Err(stop),
-    };
-    syntax_of(alloc, bytes.as_slice())
-}
 
 /// The bytes of a program's file within the limit, and of a longer one more bytes than that.
 fn program_bytes<H: Shelf>(alloc: Global, shelf: &mut H, name: &str) -> Result<Vec<u8>, Outcome>
@@ -92,15 +52,21 @@ fn kast_told<H: Shelf>(alloc: Global, shelf: &mut H, job: &Job<'_>) -> Result<To
         (Rose (H.faults shelf.old job.now.definition.now) (H.faults shelf.new job.now.definition.now))
         (Rose (H.faults shelf.old job.now.program.now) (H.faults shelf.new job.now.program.now))) }
 {
-    let syntax = match syntax_at(alloc, shelf, job.definition) {
-        Ok(syntax) => syntax,
+    let assembly = match assembly_at(alloc, shelf, job.definition) {
+        Ok(assembly) => assembly,
         Err(stop) => return Err(stop),
     };
     let bytes = match program_bytes(alloc, shelf, job.program) {
         Ok(bytes) => bytes,
         Err(stop) => return Err(stop),
     };
-    let Ok(told) = answer_text(alloc, syntax, bytes.as_slice()) else {
+    let Assembly {
+        grammar,
+        tree,
+        names,
+        ..
+    } = assembly;
+    let Ok(told) = answer_text(alloc, &grammar, names, tree.pgm_sort(), bytes.as_slice()) else {
         return Err(Outcome::Memory);
     };
     Ok(told)

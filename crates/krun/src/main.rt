@@ -3,6 +3,8 @@
 #![tactic(auto)]
 
 mod alone;
+mod assembled;
+mod cell_fault;
 mod def_fault;
 mod definition;
 mod file;
@@ -13,6 +15,8 @@ mod outside;
 mod report;
 mod rule_fault;
 mod rules;
+#[cfg(test)]
+mod samples;
 #[cfg(test)]
 mod tests;
 mod texts;

@@ -2,7 +2,7 @@ ghost use Rattle.std.specs.Prelude.{◌≡◌};
 ghost use Rattle.krun.specs.Outcome.{status_of, text_of, outcome_of, HasFixedText};
 ghost use Rattle.krun.specs.declared.outcome.Outcome.TheVariants.{Memory as WantOfMemory};
 
-use crate::def_fault::DefFault;
+use context_transform::DefFault;
 use k_terms::Memory;
 use program_reader::ReadRefusal;
 

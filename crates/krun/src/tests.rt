@@ -1,49 +1,15 @@
 use crate::alone::krun_alone;
 use crate::outcome::{Outcome, Which};
 use crate::report::Report;
+use crate::samples::{
+    IMP, IMP_LINES, LOOPING, MINUS, MINUS_LEFT, NOTS, PAR, PAR_LINES, STATEMENTS, TINY, TWO_SORTS,
+};
+use cell_config::CellRefusal;
+use context_transform::DefFault;
 use k_edge::{MemShelf, MemSink, SureShelf, SureSink};
 use program_reader::ReadRefusal;
 use std::alloc::{AllocError, Global};
 use std::test::Fail;
-
-const TINY: &str = "module TINY
-  syntax Nat ::= z() | s(Nat) | plus(Nat, Nat)
-  configuration <k> $PGM:Nat </k>
-  rule plus(z(), N:Nat) => N
-  rule plus(s(M:Nat), N:Nat) => plus(M, s(N))
-endmodule
-";
-
-const LOOPING: &str =
-    "module L syntax A ::= a() configuration <k> $PGM:A </k> rule a() => a() endmodule";
-
-const MINUS: &str = "module E syntax E ::= Int | E \"-\" E configuration <k> $PGM:E </k> endmodule";
-
-const MINUS_LEFT: &str =
-    "module E syntax E ::= Int | E \"-\" E [left] configuration <k> $PGM:E </k> endmodule";
-
-const NOTS: &str = "module A syntax A ::= \"z\" | \"!\" K configuration <k> $PGM:A </k> endmodule";
-
-const STATEMENTS: &str = "module IMP
-  syntax AExp ::= Int | Id | \"-\" Int
-                | AExp \"/\" AExp [left, strict]
-                > AExp \"+\" AExp [left, strict]
-                | \"(\" AExp \")\" [bracket]
-  syntax Stmt ::= Id \"=\" AExp \";\" [strict(2)]
-                > Stmt Stmt [left]
-  syntax Pgm  ::= \"int\" Ids \";\" Stmt
-  syntax Ids  ::= List{Id,\",\"}
-  configuration <k> $PGM:Pgm </k>
-endmodule
-";
-
-const TWO_SORTS: &str = "module IMP
-  syntax AExp ::= Int | Id | AExp \"+\" AExp [left, strict]
-  syntax Stmt ::= Id \"=\" AExp \";\" [strict(2)]
-  configuration <T> <k> $PGM:Stmt </k> <state> .Map </state> </T>
-  rule I1:Int + I2:Int => I1 +Int I2
-endmodule
-";
 
 fn file(alloc: Global, name: &str, bytes: &[u8]) -> Result<(String, Vec<u8>), AllocError> {
     Ok((name.to_string(alloc)?, Vec::from_slice(alloc, bytes)?))
@@ -88,6 +54,7 @@ fn report_of(
 #[test]
 fn runs_and_refuses(rt: HostRuntime) -> Result<(), Fail> {
     let no_reading = Outcome::Program(ReadRefusal::NoReading { at: 0 });
+    let no_cell_k = Outcome::Definition(DefFault::Cell(CellRefusal::NoK));
     let jobs: [(&str, &str, &str, Outcome, u8, usize); 5] = [
         (
             TINY,
@@ -117,8 +84,8 @@ fn runs_and_refuses(rt: HostRuntime) -> Result<(), Fail> {
         (
             "module A endmodule",
             "z()",
-            "definition 29 Unbuilt\n",
-            Outcome::Unbuilt,
+            "definition 23 NoK\n",
+            no_cell_k,
             3,
             0,
         ),
@@ -163,7 +130,7 @@ fn refuses_definitions(rt: HostRuntime) -> Result<(), Fail> {
         ),
         (
             b"module A syntax A ::= Int endmodule",
-            "definition 29 Unbuilt\n",
+            "definition 23 NoK\n",
         ),
         (TWO_SORTS.as_bytes(), "definition 29 Unbuilt\n"),
     ];
@@ -302,7 +269,20 @@ fn runs_over_a_shelf_and_a_sink_that_never_fail(rt: HostRuntime) -> Result<(), F
 
 #[test]
 fn shows_terms(rt: HostRuntime) -> Result<(), Fail> {
-    let terms: [(&str, &str, &str, u8); 16] = [
+    let terms: [(&str, &str, &str, u8); 19] = [
+        (
+            IMP,
+            "int x; x = 1 + 2;",
+            "int_;_(.Ids[x],_=_;(x,_+_(1,2)))\n",
+            0,
+        ),
+        (
+            IMP,
+            "int x; x = 170141183460469231731687303715884105728;",
+            "program 16 WideNumber at=11\n",
+            4,
+        ),
+        (IMP, "", "program 13 NoReading at=0\n", 4),
         (
             MINUS,
             "1 - 2 - 3",
@@ -374,9 +354,9 @@ fn shows_terms(rt: HostRuntime) -> Result<(), Fail> {
             3,
         ),
         (
-            "module A syntax B ::= \"b\" endmodule",
-            "b",
-            "definition 29 Unbuilt\n",
+            "module A syntax E ::= \"e\" endmodule",
+            "e",
+            "definition 23 NoK\n",
             3,
         ),
     ];
@@ -432,8 +412,24 @@ fn refuses_terms_past_the_limits(rt: HostRuntime) -> Result<(), Fail> {
 }
 
 /// Definitions, the lines of their rules or that of their refusal, and the status.
-const LISTED: [(&str, &str, u8); 10] = [
+const LISTED: [(&str, &str, u8); 14] = [
     (TINY, "1 rule k\n2 rule k\n", 0),
+    (IMP, IMP_LINES, 0),
+    (
+        "module A syntax E ::= \"e\" configuration <k> $PGM:E </k> configuration <k> $PGM:E </k> endmodule",
+        "definition 22 TwoCells name=k\n",
+        3,
+    ),
+    (
+        "module A syntax E ::= \"e\" endmodule",
+        "definition 23 NoK\n",
+        3,
+    ),
+    (
+        "module A syntax E ::= \"e\" configuration <T> <k> $PGM:E </k> <s> $PGM:E </s> </T> endmodule",
+        "definition 24 CellContent name=s\n",
+        3,
+    ),
     (
         "module S syntax E ::= Int | E \"+\" E [left, strict] syntax KResult ::= Int configuration <k> $PGM:E </k> rule I:Int + J:Int => I +Int J endmodule",
         "1 rule k\n2 heat _+_ 1\n3 cool _+_ 1\n4 heat _+_ 2\n5 cool _+_ 2\n",
@@ -497,5 +493,53 @@ fn otherwise_listed(alloc: Global, cases: &[(&str, &str, u8)]) -> Result<String,
 #[test]
 fn lists_rules(rt: HostRuntime) -> Result<(), Fail> {
     assert_eq!(rt; otherwise_listed(rt.alloc(), &LISTED)?.as_str(), "");
+    Ok(())
+}
+
+/// An eleventh rule of a definition with ten, its line or that of the refusal, and the status.
+const ELEVENTH: [(&str, &str, u8); 4] = [
+    (
+        "rule <k> get A:Id => . ...</k> <k> get B:Id ...</k>",
+        "11 rule T,threads,thread,k,thread,k\n",
+        0,
+    ),
+    (
+        "rule <k> get A:Id => . ...</k> <env> E:Map </env>",
+        "11 rule T,threads,thread,k,env\n",
+        0,
+    ),
+    (
+        "rule <k> get A:Id => . ...</k> <env> E:Map </env> <k> get B:Id ...</k>",
+        "definition 25 Unclear rule=11\n",
+        3,
+    ),
+    (
+        "rule (.Bag => <env> .Map </env>)",
+        "definition 26 CellMisplaced rule=11 cell=env\n",
+        3,
+    ),
+];
+
+/// The eleventh rules of which something else is told than should be, and nothing where all is right.
+fn otherwise_added(alloc: Global, cases: &[(&str, &str, u8)]) -> Result<String, Fail> {
+    let mut line = String::new(alloc);
+    for (rule, text, status) in cases {
+        let front = PAR;
+        let definition = format!(in alloc; "{front}{rule} endmodule")?;
+        let (bytes, failing) = (definition.as_bytes(), Vec::new(alloc));
+        let (report, sink) = report_of(alloc, "krun rules d.k", bytes, "", failing)?;
+        let told = sink.bytes();
+        let before = if *status == 0 { PAR_LINES } else { "" };
+        let (first, last) = told.split_at(before.len().min(told.len()));
+        if first != before.as_bytes() || last != text.as_bytes() || report.status != *status {
+            line.push_str(&format!(in alloc; "{rule}; ")?)?;
+        }
+    }
+    Ok(line)
+}
+
+#[test]
+fn lists_a_rule_behind_ten(rt: HostRuntime) -> Result<(), Fail> {
+    assert_eq!(rt; otherwise_added(rt.alloc(), &ELEVENTH)?.as_str(), "");
     Ok(())
 }

@@ -2,14 +2,16 @@ ghost use Rattle.std.specs.Prelude.{◌≡◌, ◌≢◌, ◌↔◌, ◌<◌, �
 ghost use Rattle.small_form.specs.declared.small.Small.{Small as Definition};
 ghost use Rattle.small_form.specs.Small.{IsSmall, IsSmallText, HaveLabels, unplaced, language_of};
 ghost use Rattle.small_form.specs.Program.{IsTermText};
-ghost use Rattle.krun.specs.Outcome.{status_of, text_of, run_word, is_stop, wants_memory, HasFixedText, IsReported};
-ghost use Rattle.krun.specs.Refusals.{IsRefused, HasNoRefusal, IsOnlyRefusal};
+ghost use Rattle.krun.specs.Outcome.{status_of, text_of, run_word, is_stop, HasFixedText, IsReported};
+ghost use Rattle.context_transform.specs.Told.{wants_memory};
+ghost use Rattle.krun.specs.Refusals.{HasNoRefusal};
+ghost use Rattle.context_transform.specs.Assembling.{IsDefFault, IsOnlyFault};
 ghost use Rattle.krun.specs.Headline.{word_at, caller_fired, run_text as text_of_run, IsRun, Took};
 ghost use Rattle.krun.specs.Causes.{IsJob, IsDefinition, IsUnbuilt, IsOfSmallForm, IsProgram, IsWholeRun};
 ghost use Rattle.k_terms.specs.declared.value.Value.{Value as Val};
 ghost use Rattle.rule_terms.specs.Rewriting.{IsStuck};
 ghost use Rattle.live_config.specs.Configuration.{plain};
-ghost use Rattle.krun.specs.declared.def_fault.DefFault.{DefFault as Fault};
+ghost use Rattle.context_transform.specs.declared.fault.DefFault.{DefFault as Fault};
 ghost use Rattle.krun.specs.declared.outcome.Outcome.TheVariants.{Usage as WantOfWords, Definition as DefinitionRefused, Unbuilt as NotOfSmallForm, Program as ProgramRefused, Memory as WantOfMemory, ReadFault as FaultOf, Final as OfFinal, Budget as OfBudget, Shown as WasShown};
 ghost use Rattle.program_reader.specs.declared.refusal.ReadRefusal.TheVariants.{NoReading};
 ghost use Rattle.krun.specs.declared.outcome.Which.TheVariants.{Definition as TheDefinition, Program as TheProgram};
@@ -20,13 +22,14 @@ ghost use Rattle.live_config.specs.declared.site.Fired.{Fired as FiredEntry};
 ghost use Rattle.live_config.specs.Runs.{IsLog};
 ghost use Rattle.front_run.specs.Front.{one_cell, AreFrontRules};
 
-use crate::def_fault::DefFault;
+use crate::def_fault::line_of_fault;
 use crate::definition::definition_at;
 use crate::file::file_bytes;
 use crate::job::job_of;
 use crate::outcome::{Outcome, WRITE_FAULT, Which};
 use crate::report::Report;
 use crate::texts::run_text;
+use context_transform::DefFault;
 use front_run::{Ending, run_program};
 use k_edge::{Shelf, Sink};
 use k_terms::{Many, Memory, Numbers, Value};
@@ -146,7 +149,7 @@ fn run_job<H: Shelf>(alloc: Global, shelf: &mut H, words: &[String]) -> Result<R
     ensures definition_fault { IfErr result (λ refusal. refusal ≡ FaultOf TheDefinition →
         Rose (H.faults shelf.old (word_at (map string_bytes words.now) 2)) (H.faults shelf.new (word_at (map string_bytes words.now) 2))) }
     ensures definition { (fault : Fault) → IfErr result (λ refusal. refusal ≡ DefinitionRefused fault →
-        IfSome (H.told shelf.old (word_at (map string_bytes words.now) 2)) (λ definition. IsOnlyRefusal definition fault)) }
+        IfSome (H.told shelf.old (word_at (map string_bytes words.now) 2)) (λ definition. IsOnlyFault definition fault)) }
     ensures never_memory { (fault : Fault) → IfErr result (λ refusal. refusal ≡ DefinitionRefused fault → wants_memory fault ≡ false) }
     ensures unbuilt { IfErr result (λ refusal. refusal ≡ NotOfSmallForm →
         IfSome (H.told shelf.old (word_at (map string_bytes words.now) 2)) IsUnbuilt) }
@@ -244,7 +247,7 @@ fn report_fault<O: Sink>(alloc: Global, out: &mut O, fault: DefFault) -> Report
     ensures front { result.status ≡ 6 → AppendsFront (O.taken out.old) (O.taken out.new) (text_of result.outcome) }
     ensures fault { result.status ≡ 6 → Rose (O.faults out.old) (O.faults out.new) }
 {
-    let Ok(line) = fault.line(alloc) else {
+    let Ok(line) = line_of_fault(alloc, &fault) else {
         return report_fixed(alloc, out, Outcome::Memory);
     };
     let outcome = Outcome::Definition(fault);
@@ -296,7 +299,7 @@ pub fn run_report<H: Shelf, O: Sink>(
     ensures definition_fault { result.outcome ≡ FaultOf TheDefinition →
         Rose (H.faults shelf.old (word_at (map string_bytes words.now) 2)) (H.faults shelf.new (word_at (map string_bytes words.now) 2)) }
     ensures definition { (fault : Fault) → result.outcome ≡ DefinitionRefused fault →
-        IfSome (H.told shelf.old (word_at (map string_bytes words.now) 2)) (λ definition. IsRefused definition fault) }
+        IfSome (H.told shelf.old (word_at (map string_bytes words.now) 2)) (λ definition. IsDefFault definition fault) }
     ensures never_memory { (fault : Fault) → result.outcome ≡ DefinitionRefused fault → wants_memory fault ≡ false }
     ensures unbuilt { result.outcome ≡ NotOfSmallForm →
         IfSome (H.told shelf.old (word_at (map string_bytes words.now) 2)) IsUnbuilt }
@@ -311,7 +314,7 @@ pub fn run_report<H: Shelf, O: Sink>(
     // Where a file is told and no count rose, its refusal comes exactly where it has the cause, and else the run is whole;
     // only memory may be wanting.
     ensures definition_where { (fault : Fault) → IsJob (map string_bytes words.now) → IfSome (H.told shelf.old (word_at (map string_bytes words.now) 2)) (λ definition.
-        IsRefused definition fault →
+        IsDefFault definition fault →
         (Rose (H.faults shelf.old (word_at (map string_bytes words.now) 2)) (H.faults shelf.new (word_at (map string_bytes words.now) 2)) → ⊥) →
         (result.outcome ≡ DefinitionRefused fault) ⊎ (result.outcome ≡ WantOfMemory)) }
     ensures unbuilt_where { IsJob (map string_bytes words.now) → IfSome (H.told shelf.old (word_at (map string_bytes words.now) 2)) (λ definition.

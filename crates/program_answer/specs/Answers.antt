@@ -8,7 +8,6 @@ use Rattle.printed_form.specs.Printed.{value_text}
 use Rattle.program_reader.specs.declared.refusal.ReadRefusal.{ReadRefusal}
 use Rattle.program_reader.specs.declared.refusal.ReadRefusal.TheVariants.{TooBig, TooLong, BadToken, WideNumber, NoReading, Ambiguous, TooDeep, Memory}
 use Rattle.program_reader.specs.Programs.{IsProgram, IsRefused}
-use Rattle.program_syntax.specs.declared.syntax.ProgramSyntax.{ProgramSyntax}
 use Rattle.program_answer.specs.declared.answer.Answer.{Answer}
 use Rattle.program_answer.specs.declared.answer.Answer.TheVariants.{Shown, Refused}
 
@@ -36,11 +35,11 @@ refusal_line words (Ambiguous first second) =
 refusal_line words (TooDeep depth) = numbered (codes "program 28 TooDeep depth=") depth
 refusal_line words Memory = []
 
--- The text is a program, and its value is printed; or it is refused, with its line.
-abbrev pub IsTold : ProgramSyntax → List ℕ → Answer → List ℕ → Type 0
-IsTold syntax program Shown text =
-    (after : List (List ℕ)) × (value : Value) × IsProgram syntax.grammar syntax.names syntax.sort program after value
-    × (text ≡ value_text (words_of syntax.grammar after) value ++ line_end)
-IsTold syntax program (Refused refusal) text =
-    (after : List (List ℕ)) × IsRefused syntax.grammar syntax.names syntax.sort program after refusal
-    × (text ≡ refusal_line (words_of syntax.grammar after) refusal)
+-- Over a grammar, names and a sort: the text is a program, and its value is printed; or it is refused, with its line.
+abbrev pub IsTold : Syntax → List (List ℕ) → ℕ → List ℕ → Answer → List ℕ → Type 0
+IsTold g names sort program Shown text =
+    (after : List (List ℕ)) × (value : Value) × IsProgram g names sort program after value
+    × (text ≡ value_text (words_of g after) value ++ line_end)
+IsTold g names sort program (Refused refusal) text =
+    (after : List (List ℕ)) × IsRefused g names sort program after refusal
+    × (text ≡ refusal_line (words_of g after) refusal)

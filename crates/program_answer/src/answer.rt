@@ -12,7 +12,6 @@ use crate::symbols::symbols;
 use k_terms::{Memory, Names, Value};
 use printed_form::Words;
 use program_reader::{ReadRefusal, read_text};
-use program_syntax::ProgramSyntax;
 use sorted_grammar::Grammar;
 use std::alloc::Global;
 
@@ -72,18 +71,21 @@ fn refused(
     })
 }
 
-/// The answer for the text of a program: the line of its value, or of its refusal.
-pub fn answer_text(alloc: Global, syntax: ProgramSyntax, text: &[u8]) -> Result<Told, Memory>
-    ensures { IfOk result (λ told. IsTold syntax text.now told.answer told.text.items) }
+/// The answer for the text of a program, read at a sort of a grammar with the words that have numbers: the line of its value, or
+/// of its refusal.
+pub fn answer_text(
+    alloc: Global,
+    grammar: &Grammar,
+    names: Names,
+    sort: u32,
+    text: &[u8],
+) -> Result<Told, Memory>
+    ensures { IfOk result (λ told. IsTold grammar.now names sort text.now told.answer told.text.items) }
 {
-    let ProgramSyntax {
-        grammar,
-        mut names,
-        sort,
-    } = syntax;
-    match read_text(alloc, &grammar, &mut names, sort, text) {
-        Ok(value) => shown(alloc, &grammar, &names, &value),
+    let mut names = names;
+    match read_text(alloc, grammar, &mut names, sort, text) {
+        Ok(value) => shown(alloc, grammar, &names, &value),
         Err(ReadRefusal::Memory) => Err(Memory),
-        Err(refusal) => refused(alloc, &grammar, &names, refusal),
+        Err(refusal) => refused(alloc, grammar, &names, refusal),
     }
 }

@@ -1,42 +1,58 @@
 use crate::answer_text;
-use program_syntax::read_syntax;
+use definition_syntax::{Definition, read_definition};
 use std::alloc::Global;
 use std::test::Fail;
 
 /// Four groups of operators in one sentence, and a bracket.
-const GROUPS: &str = "module E syntax E ::= Int | \"!\" E
-    > E \"*\" E [left] > E \"+\" E [left] > E \"=\" E [right] | E \"<\" E [non-assoc] > \"(\" E \")\" [bracket]
-  configuration <k> $PGM:E </k> endmodule";
+const GROUPS: (&str, &str) = (
+    "E",
+    "module E syntax E ::= Int | \"!\" E
+    > E \"*\" E [left] > E \"+\" E [left] > E \"=\" E [right] | E \"<\" E [non-assoc] > \"(\" E \")\" [bracket] endmodule",
+);
 
 /// Two operators, each in a sentence of its own.
-const SENTENCES: &str = "module E syntax E ::= Int | E \"+\" E [left] syntax E ::= E \"-\" E [left]
-  configuration <k> $PGM:E </k> endmodule";
+const SENTENCES: (&str, &str) = (
+    "E",
+    "module E syntax E ::= Int | E \"+\" E [left] syntax E ::= E \"-\" E [left] endmodule",
+);
 
 /// Lists with a comma, within brackets, and lists with nothing between.
-const LISTS: &str = "module L syntax E ::= Int | \"[\" Es \"]\" | \"w\" Ws
-  syntax Es ::= List{E,\",\"} syntax Ws ::= List{Id,\"\"}
-  configuration <k> $PGM:Es </k> endmodule";
+const LISTS: (&str, &str) = (
+    "Es",
+    "module L syntax E ::= Int | \"[\" Es \"]\" | \"w\" Ws
+  syntax Es ::= List{E,\",\"} syntax Ws ::= List{Id,\"\"} endmodule",
+);
 
 /// Any term, and lists.
-const ITEMS: &str = "module A syntax A ::= \"!\" KItem syntax L ::= List{Int,\",\"}
-  configuration <k> $PGM:A </k> endmodule";
+const ITEMS: (&str, &str) = (
+    "A",
+    "module A syntax A ::= \"!\" KItem syntax L ::= List{Int,\",\"} endmodule",
+);
 
 /// Terminals of marks, of which one is a front of another.
-const MARKS: &str = "module M syntax E ::= Int | E \"<\" E | E \"<=\" E | E \"<<\" E | \"=\" E
-  configuration <k> $PGM:E </k> endmodule";
+const MARKS: (&str, &str) = (
+    "E",
+    "module M syntax E ::= Int | E \"<\" E | E \"<=\" E | E \"<<\" E | \"=\" E endmodule",
+);
 
 /// Literals, words and brackets of two sorts.
-const WORDS: &str =
+const WORDS: (&str, &str) = (
+    "B",
     "module W syntax B ::= Bool | String | Id | C | \"not\" B | f(B, C) | \"(\" B \")\" [bracket]
-  syntax C ::= Int | \"(\" C \")\" [bracket]
-  configuration <k> $PGM:B </k> endmodule";
+  syntax C ::= Int | \"(\" C \")\" [bracket] endmodule",
+);
 
-/// The line for a program under a definition, and nothing where the definition says nothing of programs.
-fn line_of(alloc: Global, definition: &str, program: &str) -> Result<Vec<u8>, Fail> {
-    let Ok(syntax) = read_syntax(alloc, definition.as_bytes()) else {
+/// The line for a program of a sort under a definition, and nothing where these are none.
+fn line_of(alloc: Global, language: (&str, &str), program: &str) -> Result<Vec<u8>, Fail> {
+    let (sort, definition) = language;
+    let Ok(definition) = read_definition(alloc, definition.as_bytes()) else {
         return Ok(Vec::new(alloc));
     };
-    let Ok(told) = answer_text(alloc, syntax, program.as_bytes()) else {
+    let Definition { grammar, names, .. } = definition;
+    let Some(sort) = grammar.sort_number(sort) else {
+        return Ok(Vec::new(alloc));
+    };
+    let Ok(told) = answer_text(alloc, &grammar, names, sort, program.as_bytes()) else {
         return Ok(Vec::new(alloc));
     };
     Ok(told.text)
@@ -44,7 +60,7 @@ fn line_of(alloc: Global, definition: &str, program: &str) -> Result<Vec<u8>, Fa
 
 #[test]
 fn groups_operators(rt: HostRuntime) -> Result<(), Fail> {
-    let cases: [(&str, &str, &str); 14] = [
+    let cases: [((&str, &str), &str, &str); 14] = [
         (GROUPS, "1 + 2 * 3", "_+_(1,_*_(2,3))\n"),
         (GROUPS, "1 * 2 + 3", "_+_(_*_(1,2),3)\n"),
         (GROUPS, "1 + 2 + 3", "_+_(_+_(1,2),3)\n"),
@@ -64,8 +80,8 @@ fn groups_operators(rt: HostRuntime) -> Result<(), Fail> {
             "program 14 Ambiguous first=_+_(1,_-_(2,3)) second=_-_(_+_(1,2),3)\n",
         ),
     ];
-    for (definition, program, line) in cases {
-        let found = line_of(rt.alloc(), definition, program)?;
+    for (language, program, line) in cases {
+        let found = line_of(rt.alloc(), language, program)?;
         assert_eq!(rt; found.as_slice(), line.as_bytes(), "{program}");
     }
     Ok(())
@@ -73,7 +89,7 @@ fn groups_operators(rt: HostRuntime) -> Result<(), Fail> {
 
 #[test]
 fn reads_lists(rt: HostRuntime) -> Result<(), Fail> {
-    let cases: [(&str, &str, &str); 10] = [
+    let cases: [((&str, &str), &str, &str); 10] = [
         (LISTS, "", ".Es[]\n"),
         (LISTS, "1", ".Es[1]\n"),
         (LISTS, "1, 2", ".Es[1,2]\n"),
@@ -89,8 +105,8 @@ fn reads_lists(rt: HostRuntime) -> Result<(), Fail> {
         (ITEMS, "!", "!_(.L[])\n"),
         (ITEMS, "! ! 1", "!_(!_(1))\n"),
     ];
-    for (definition, program, line) in cases {
-        let found = line_of(rt.alloc(), definition, program)?;
+    for (language, program, line) in cases {
+        let found = line_of(rt.alloc(), language, program)?;
         assert_eq!(rt; found.as_slice(), line.as_bytes(), "{program}");
     }
     Ok(())
@@ -98,7 +114,7 @@ fn reads_lists(rt: HostRuntime) -> Result<(), Fail> {
 
 #[test]
 fn splits_words(rt: HostRuntime) -> Result<(), Fail> {
-    let cases: [(&str, &str, &str); 15] = [
+    let cases: [((&str, &str), &str, &str); 15] = [
         (MARKS, "1 <= 2", "_<=_(1,2)\n"),
         (MARKS, "1 < = 2", "_<_(1,=_(2))\n"),
         (MARKS, "1 <<= 2", "_<<_(1,=_(2))\n"),
@@ -123,8 +139,8 @@ fn splits_words(rt: HostRuntime) -> Result<(), Fail> {
             "program 16 WideNumber at=0\n",
         ),
     ];
-    for (definition, program, line) in cases {
-        let found = line_of(rt.alloc(), definition, program)?;
+    for (language, program, line) in cases {
+        let found = line_of(rt.alloc(), language, program)?;
         assert_eq!(rt; found.as_slice(), line.as_bytes(), "{program}");
     }
     Ok(())

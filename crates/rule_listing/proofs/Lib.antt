@@ -1,4 +1,1 @@
 pub mod Listed
-pub mod Determined
-pub mod Refusing
-pub mod Endings

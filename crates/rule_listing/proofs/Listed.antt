@@ -6,7 +6,7 @@ use Rattle.std.specs.Prelude.{Option}
 use Rattle.std.specs.List.{flat_map}
 use Rattle.grammar_terms.specs.Grammar.{Syntax}
 use Rattle.rule_terms.specs.declared.defs.CellShape.{CellShape}
-use Rattle.rule_terms.specs.declared.rule.Draft.{Draft}
+use Rattle.rule_terms.specs.declared.rule.Rule.{Rule}
 use Rattle.rule_terms.specs.declared.pattern.Body.{Body, Cells}
 use Rattle.rule_terms.specs.declared.pattern.CellPat.{CellPat}
 use Rattle.rule_terms.specs.Spots.{Spot, spots, spots_in}
@@ -40,23 +40,17 @@ cells_to (c ∷ cs) (suc i) cell within is = ap (λ ns. map cell_in (spots c) ++
 pub cells_next : (cells : List CellPat) (i : ℕ) (cell : CellPat) → i < length cells → cell ≡ get_or cells i cell → cells_of (take (i + 1) cells) ≡ cells_of (take i cells) ++ map cell_in (spots cell)
 cells_next cells i cell within is = ap (λ n. cells_of (take n cells)) (one_more i) ∙ cells_to cells i cell within is
 
-lines_to : (g : Syntax) (cells : List CellShape) (drafts : List Draft) (i n : ℕ) (draft : Draft) → i < length drafts → draft ≡ get_or drafts i draft
-    → lines_from g cells n (drop i drafts) ≡ rule_line g cells n draft ++ lines_from g cells (n + 1) (drop (suc i) drafts)
-lines_to g cells [] i n draft within is = absurd (omega arith)
-lines_to g cells (d ∷ ds) zero n draft within is = ap (λ (e : Draft). rule_line g cells n e ++ lines_from g cells (n + 1) ds) (sym is)
+lines_to : (g : Syntax) (cells : List CellShape) (rules : List Rule) (i n : ℕ) (rule : Rule) → i < length rules → rule ≡ get_or rules i rule
+    → lines_from g cells n (drop i rules) ≡ rule_line g cells n rule ++ lines_from g cells (n + 1) (drop (suc i) rules)
+lines_to g cells [] i n rule within is = absurd (omega arith)
+lines_to g cells (d ∷ ds) zero n draft within is = ap (λ (e : Rule). rule_line g cells n e ++ lines_from g cells (n + 1) ds) (sym is)
 lines_to g cells (d ∷ ds) (suc i) n draft within is = lines_to g cells ds i n draft (omega arith) is
 
 -- the lines from a rule on
-pub lines_next : (g : Syntax) (cells : List CellShape) (drafts : List Draft) (i n : ℕ) (draft : Draft) → i < length drafts → draft ≡ get_or drafts i draft
-    → lines_from g cells n (drop i drafts) ≡ rule_line g cells n draft ++ lines_from g cells (n + 1) (drop (i + 1) drafts)
-lines_next g cells drafts i n draft within is =
-    lines_to g cells drafts i n draft within is ∙ ap (λ k. rule_line g cells n draft ++ lines_from g cells (n + 1) (drop k drafts)) (sym (one_more i))
-
-pub lines_append : (g : Syntax) (cells : List CellShape) (n : ℕ) (some more : List Draft) → lines_from g cells n (some ++ more) ≡ lines_from g cells n some ++ lines_from g cells (n + length some) more
-lines_append g cells n [] more = ap (λ m. lines_from g cells m more) (omega arith)
-lines_append g cells n (d ∷ ds) more =
-    ap (λ ls. rule_line g cells n d ++ ls) (lines_append g cells (n + 1) ds more ∙ ap (λ m. lines_from g cells (n + 1) ds ++ lines_from g cells m more) (omega arith))
-    ∙ sym (append_assoc (rule_line g cells n d) (lines_from g cells (n + 1) ds) (lines_from g cells (n + suc (length ds)) more))
+pub lines_next : (g : Syntax) (cells : List CellShape) (rules : List Rule) (i n : ℕ) (rule : Rule) → i < length rules → rule ≡ get_or rules i rule
+    → lines_from g cells n (drop i rules) ≡ rule_line g cells n rule ++ lines_from g cells (n + 1) (drop (i + 1) rules)
+lines_next g cells rules i n rule within is =
+    lines_to g cells rules i n rule within is ∙ ap (λ k. rule_line g cells n rule ++ lines_from g cells (n + 1) (drop k rules)) (sym (one_more i))
 
 -- the same of lists that grow
 pub cells_kept : (cells : List CellPat) (i : ℕ) (cell : CellPat) (old before now : List ℕ) → i < length cells → cell ≡ get_or cells i cell
@@ -64,13 +58,3 @@ pub cells_kept : (cells : List CellPat) (i : ℕ) (cell : CellPat) (old before n
 cells_kept cells i cell old before now within is had has =
     has ∙ ap (λ ns. ns ++ map cell_in (spots cell)) had ∙ append_assoc old (cells_of (take i cells)) (map cell_in (spots cell))
     ∙ ap (λ ns. old ++ ns) (sym (cells_next cells i cell within is))
-
-one_behind : (n : ℕ) → n + 1 ≡ 1 + n
-one_behind n = omega arith
-
-pub lines_together : (g : Syntax) (cells : List CellShape) (some more : List Draft) (none first second : List ℕ) → none ≡ []
-    → first ≡ none ++ lines_from g cells 1 some → second ≡ first ++ lines_from g cells (length some + 1) more → second ≡ lines_from g cells 1 (some ++ more)
-lines_together g cells some more none first second empty one both =
-    both ∙ ap (λ ls. ls ++ lines_from g cells (length some + 1) more) (one ∙ ap (λ ls. ls ++ lines_from g cells 1 some) empty)
-    ∙ ap (λ n. lines_from g cells 1 some ++ lines_from g cells n more) (one_behind (length some))
-    ∙ sym (lines_append g cells 1 some more)

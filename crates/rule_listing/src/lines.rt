@@ -8,7 +8,7 @@ ghost use Rattle.rule_listing.specs.Lines.{cells_of, cell_name, label_at, place_
 
 use grammar_terms::Grammar;
 use k_terms::Memory;
-use rule_terms::{Body, CellPat, CellShape, Draft, Origin};
+use rule_terms::{Body, CellPat, CellShape, Origin, Rule};
 use std::alloc::Global;
 
 /// Adds the declared cells of what stands in a body.
@@ -44,11 +44,11 @@ fn add_cells(cells: &[CellPat], found: &mut Vec<u32>) -> Result<(), Memory>
 }
 
 /// The declared cells of a side.
-fn side_cells(alloc: Global, side: &[CellPat]) -> Result<Vec<u32>, Memory>
-    ensures { IfOk result (λ found. found.items ≡ cells_of side.now) }
+fn side_cells(alloc: Global, side: &CellPat) -> Result<Vec<u32>, Memory>
+    ensures { IfOk result (λ found. found.items ≡ map (λ (p : Spot). p.cell) (spots side.now)) }
 {
     let mut found = Vec::new(alloc);
-    add_cells(side, &mut found)?;
+    add_cell(side, &mut found)?;
     Ok(found)
 }
 
@@ -110,14 +110,14 @@ fn add_origin(
     alloc: Global,
     grammar: &Grammar,
     cells: &[CellShape],
-    draft: &Draft,
+    rule: &Rule,
     line: &mut Vec<u8>,
 ) -> Result<(), Memory>
-    ensures { IfOk result (λ _. line.new.items ≡ line.old.items ++ text_of_origin grammar.now cells.now draft.now.left draft.now.origin) }
+    ensures { IfOk result (λ _. line.new.items ≡ line.old.items ++ text_of_origin grammar.now cells.now rule.now.left rule.now.origin) }
 {
-    match draft.origin {
+    match rule.origin {
         Origin::Written { at: _ } => {
-            let numbers = side_cells(alloc, draft.left.as_slice())?;
+            let numbers = side_cells(alloc, &rule.left)?;
             line.extend_from_slice(b"rule ")?;
             add_names(cells, &numbers, line)
         }
@@ -132,51 +132,33 @@ fn add_line(
     grammar: &Grammar,
     cells: &[CellShape],
     number: usize,
-    draft: &Draft,
+    rule: &Rule,
     lines: &mut Vec<u8>,
 ) -> Result<(), Memory>
-    ensures { IfOk result (λ _. lines.new.items ≡ lines.old.items ++ line_of_rule grammar.now cells.now number draft.now) }
+    ensures { IfOk result (λ _. lines.new.items ≡ lines.old.items ++ line_of_rule grammar.now cells.now number rule.now) }
 {
     let number = format!(in alloc; "{number} ")?;
     lines.extend_from_slice(number.as_bytes())?;
-    add_origin(alloc, grammar, cells, draft, lines)?;
+    add_origin(alloc, grammar, cells, rule, lines)?;
     lines.push(b'\n')?;
     Ok(())
 }
 
-/// Adds the lines of rules, of which so many stand before.
-fn add_lines(
-    alloc: Global,
-    grammar: &Grammar,
-    cells: &[CellShape],
-    before: usize,
-    drafts: &[Draft],
-    lines: &mut Vec<u8>,
-) -> Result<(), Memory>
-    ensures { IfOk result (λ _. lines.new.items ≡ lines.old.items ++ lines_from grammar.now cells.now (before + 1) drafts.now) }
-{
-    let mut number = before;
-    for draft in drafts {
-        number = number.checked_add(1).ok_or(Memory)?;
-        add_line(alloc, grammar, cells, number, draft, lines)?;
-    }
-    Ok(())
-}
-
-/// The lines of written rules and of those of strictness behind them, numbered from 1: a line is the number, and `rule` with
-/// the names of the cells on its left side, an outer cell before those in it, or `heat` or `cool` with the label of a
-/// production and the place of its argument.
+/// The lines of rules, numbered from 1: a line is the number, and `rule` with the names of the cells on its left side, an outer
+/// cell before those in it, or `heat` or `cool` with the label of a production and the place of its argument.
 pub fn rule_lines(
     alloc: Global,
     grammar: &Grammar,
     cells: &[CellShape],
-    written: &[Draft],
-    strict: &[Draft],
+    rules: &[Rule],
 ) -> Result<Vec<u8>, Memory>
-    ensures { IfOk result (λ lines. lines.items ≡ lines_from grammar.now cells.now 1 (written.now ++ strict.now)) }
+    ensures { IfOk result (λ lines. lines.items ≡ lines_from grammar.now cells.now 1 rules.now) }
 {
     let mut lines = Vec::new(alloc);
-    add_lines(alloc, grammar, cells, 0, written, &mut lines)?;
-    add_lines(alloc, grammar, cells, written.len(), strict, &mut lines)?;
+    let mut number: usize = 0;
+    for rule in rules {
+        number += 1;
+        add_line(alloc, grammar, cells, number, rule, &mut lines)?;
+    }
     Ok(lines)
 }

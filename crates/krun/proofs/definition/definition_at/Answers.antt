@@ -1,12 +1,14 @@
-use Rattle.std.proofs.Common.{◌≡◌, List, ℕ, Option, Some, None, IfSome, IfOk, subst}
+use Rattle.std.proofs.Common.{◌≡◌, List, ℕ, IfOk, subst}
 use Rattle.small_form.specs.declared.small.Small.{Small}
 use Rattle.small_form.specs.Small.{IsSmallText, unplaced}
+use Rattle.krun.specs.Refusals.{HasNoRefusal}
+use Rattle.krun.proofs.Defining.{of_file}
 use Rattle.krun.proofs.definition.definition_at.Goals as goal
 
--- what holds of the bytes holds of the file that they are
-of_file : (told : Option (List ℕ)) (bytes : List ℕ) (P : List ℕ → Type 0) → IfSome told (λ file. bytes ≡ file) → P bytes → IfSome told P
-of_file None bytes P whole holds = tt
-of_file (Some file) bytes P whole holds = subst P whole holds
+pub returns-clause-accepted : goal.returns-clause-accepted
+returns-clause-accepted g c =
+    let accepted = λ (file : List ℕ). IfOk c.definition_of.result (λ _. HasNoRefusal file) in
+    of_file _ c.in_ok-bytes.bytes.items accepted c.in_ok-bytes.ensures.whole (subst accepted c.as_slice.ensures.value c.definition_of.ensures.accepted)
 
 pub returns-clause-only_one : goal.returns-clause-only_one
 returns-clause-only_one g c =
