@@ -1,0 +1,16 @@
+pub mod Places
+pub mod Listing
+pub mod Defaults
+pub mod Drafted
+pub mod Sides
+pub mod Apartness
+pub mod Presence
+pub mod Whole
+pub mod Parenting
+pub mod Bodies
+pub mod Kinding
+pub mod Comparing
+pub mod Passing
+pub mod Variables
+pub mod Held
+pub mod Soundness
