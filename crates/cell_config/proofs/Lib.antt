@@ -4,3 +4,5 @@ pub mod Reading
 pub mod Single
 pub mod Making
 pub mod Outcomes
+pub mod Plain
+pub mod Declaring

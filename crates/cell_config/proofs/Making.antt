@@ -1,11 +1,10 @@
 -- Where nothing is wrong there is one configuration, and its cells make a tree.
-use Rattle.std.proofs.Common.{◌≡◌, ◌⊎◌, inl, inr, ℕ, zero, suc, ◌+◌, ◌<◌, ◌≤◌, ◌==◌, Bool, true, false, true≢false, cond, ◌&&◌, ◌||◌, not, List, [], ◌∷◌, ◌++◌, take, length, map, codes, Option, Some, None, refl, sym, ap, ◌∙◌, subst, arith, append-nil, append_assoc}
+use Rattle.std.proofs.Common.{◌≡◌, inl, inr, ℕ, zero, suc, ◌+◌, ◌<◌, ◌≤◌, ◌==◌, Bool, true, false, true≢false, cond, ◌&&◌, ◌||◌, not, List, [], ◌∷◌, ◌++◌, take, length, map, codes, Option, Some, None, refl, sym, ap, ◌∙◌, subst, arith, append-nil, append_assoc}
 use Rattle.std.proofs.lemmas.List.{length-map}
 use Rattle.std.proofs.lemmas.Bool.Decides.{nat_tests}
 use Rattle.std.specs.Prelude.{slice_get, is_some, is_none, nat_lt, IsTrue, IfSome, option_map}
-use Rattle.std.specs.List.{AllZip, AllByRecursion, list_any, list_all}
+use Rattle.std.specs.List.{list_any}
 use Rattle.std.specs.Option.{option_or, option_map_or}
-use Rattle.production_reader.specs.Allowed.{same_text}
 use Rattle.production_reader.proofs.Fronts.{bytes_same, same_bytes}
 use Rattle.k_lexer.specs.declared.token.Token.{Token}
 use Rattle.grammar_terms.specs.Grammar.{Syntax}
@@ -18,16 +17,17 @@ use Rattle.cell_forms.specs.Forms.{IsForm}
 use Rattle.cell_forms.specs.Laws.{IsInTree, HasTree}
 use Rattle.cell_tokens.specs.declared.token.CellToken.{CellToken}
 use Rattle.cell_trees.specs.declared.declared.Declared.{Declared}
-use Rattle.cell_trees.specs.declared.declared.Declared.TheVariants.{Program, Input, Fixed}
+use Rattle.cell_trees.specs.declared.declared.Declared.TheVariants.{Program}
 use Rattle.cell_trees.specs.Trees.{IsTree, names_of, kind_of}
+use Rattle.sorted_grammar.specs.declared.fault.What.TheVariants.{Cells as CellCount}
 use Rattle.cell_config.specs.declared.refusal.CellRefusal.{CellRefusal}
 use Rattle.cell_config.specs.declared.refusal.CellRefusal.TheVariants.{TwoCells, NoK, CellContent, TooMany}
 use Rattle.cell_config.specs.declared.division.ConfigCell.{ConfigCell}
 use Rattle.cell_config.specs.declared.division.Place.{Place}
 use Rattle.cell_config.specs.declared.division.Division.{Division}
-use Rattle.cell_config.specs.Divisions.{signs_of, Holds, cell_of, IsCellOf, AreCellsOf, IsWhole, IsDivision}
+use Rattle.cell_config.specs.Divisions.{signs_of, Holds, IsCellOf, AreCellsOf, IsWhole, IsDivision}
 use Rattle.cell_config.specs.Refusals.{first_some, is_named, is_among, first_twice, begun_at, if_among, twice_of, root_of, twice_in, program_of, program_sort, is_k, is_k_with_program, lacks_program, stray_program, inside_of, bad_content, no_k, too_many, refusal_of}
-use Rattle.cell_config.specs.Cells.{IsDivided, AreDivided, shape_of}
+use Rattle.cell_config.specs.Cells.{AreDivided, shape_of}
 use Rattle.cell_config.specs.Trees.{helds_of, tree_with, HasProgramAt, HasFewBefore, MakesTree, IsOne}
 use Rattle.cell_config.proofs.Lists.{some_same, none_some, none_is_some, same_place, zip_left, zip_right, got_map, map_got, got_within, got_front, each_at}
 
@@ -194,7 +194,7 @@ lacks_none divisions division is k place =
 
 few_of : (divisions : List Division) (division : Division) → divisions ≡ division ∷ [] → too_many divisions ≡ None → length division.cells ≤ 64
 few_of divisions division is many =
-    let less : nat_lt 64 (length division.cells) ≡ false = cond_none (nat_lt 64 (length division.cells)) (TooMany (length division.cells)) (ap too_many (sym is) ∙ many) in
+    let less : nat_lt 64 (length division.cells) ≡ false = cond_none (nat_lt 64 (length division.cells)) (TooMany CellCount (length division.cells)) (ap too_many (sym is) ∙ many) in
     search (arith, nat_tests, less)
 
 -- over the law that the cells of a form are a tree

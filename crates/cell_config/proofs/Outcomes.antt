@@ -1,20 +1,18 @@
 -- What comes of the configurations of a definition.
-use Rattle.std.proofs.Common.{◌≡◌, ◌⊎◌, inl, inr, ℕ, ◌+◌, ◌<◌, List, [], ◌∷◌, ◌++◌, map, take, length, get_or, Option, Some, None, refl, sym, ap, ◌∙◌, subst, append_assoc, append-nil}
+use Rattle.std.proofs.Common.{◌≡◌, ℕ, ◌+◌, ◌<◌, List, [], ◌∷◌, ◌++◌, map, take, length, get_or, Some, None, refl, sym, ap, ◌∙◌, subst, append_assoc}
 use Rattle.std.proofs.lemmas.List.{take_more, map-append}
 use Rattle.std.specs.Prelude.{slice_get}
 use Rattle.k_lexer.specs.declared.token.Token.{Token}
 use Rattle.grammar_terms.specs.Grammar.{Syntax}
-use Rattle.file_reader.specs.declared.sentence.Sentence.{Sentence}
 use Rattle.program_tokens.specs.Base.{GoesOn}
 use Rattle.cell_forms.specs.Laws.{HasOneForm, HasOneStop, HasFormOrStop, HasTree}
 use Rattle.cell_trees.specs.declared.declared.Declared.TheVariants.{Program}
 use Rattle.cell_trees.specs.Trees.{Tree}
-use Rattle.cell_config.specs.declared.refusal.CellRefusal.{CellRefusal}
 use Rattle.cell_config.specs.declared.division.Division.{Division}
 use Rattle.cell_config.specs.Divisions.{between}
 use Rattle.cell_config.specs.Refusals.{refusal_of}
-use Rattle.cell_config.specs.Cells.{IsDivided, AreDivided, bases_of, IsTreeOf, IsCells, IsCellRefusal}
-use Rattle.cell_config.specs.Trees.{helds_of, HasProgramAt, IsOnlyTree}
+use Rattle.cell_config.specs.Cells.{IsDivided, AreDivided, bases_of, IsTreeOf}
+use Rattle.cell_config.specs.Trees.{helds_of, HasProgramAt}
 use Rattle.cell_config.specs.Laws.{HasOneTree, HasOneRefusal, HasNotBoth}
 use Rattle.cell_config.proofs.Lists.{some_same, none_is_some}
 use Rattle.cell_config.proofs.Single.{one_reading}

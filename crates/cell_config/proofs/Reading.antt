@@ -1,22 +1,13 @@
 -- The cells of a configuration, one after the other.
-use Rattle.std.proofs.Common.{◌≡◌, ◌⊎◌, inl, inr, ℕ, ◌+◌, ◌<◌, ◌≤◌, List, [], ◌∷◌, ◌++◌, take, length, Option, Some, None, get_or, refl, sym, ap, ◌∙◌, subst}
-use Rattle.std.proofs.lemmas.List.{take_all, take_more}
-use Rattle.std.proofs.lemmas.Option.{slice_get_read}
-use Rattle.k_lexer.specs.declared.token.Token.{Token}
+use Rattle.std.proofs.Common.{◌≡◌, ℕ, ◌+◌, ◌<◌, List, [], ◌∷◌, ◌++◌, take, length, Option, get_or, refl, sym, ap, ◌∙◌, subst}
+use Rattle.std.proofs.lemmas.List.{take_more}
 use Rattle.grammar_terms.specs.Grammar.{Syntax}
 use Rattle.cell_forms.specs.declared.form.CellForm.{CellForm}
-use Rattle.cell_forms.specs.declared.form.Stop.{Stop}
-use Rattle.cell_forms.specs.Forms.{IsForm, IsStop}
 use Rattle.cell_tokens.specs.declared.token.CellToken.{CellToken}
 use Rattle.cell_trees.specs.declared.declared.Declared.{Declared}
 use Rattle.cell_contents.specs.declared.fault.ContentFault.{ContentFault}
-use Rattle.cell_contents.specs.declared.fault.ContentFault.TheVariants.{NoContent, Memory}
-use Rattle.cell_contents.specs.Contents.{IsContentFault, IsDeclared}
 use Rattle.cell_config.specs.declared.division.ConfigCell.{ConfigCell}
-use Rattle.cell_config.specs.declared.division.Place.{Place}
-use Rattle.cell_config.specs.declared.division.Division.{Division}
-use Rattle.cell_config.specs.Divisions.{signs_of, Holds, cell_of, IsCellOf, AreCellsOf, HasNoContent, IsBadAt, cell_at, content_place, stop_place, AreForms, IsDivision, between}
-use Rattle.cell_config.specs.Reading.{IsHeldFault, AreRead}
+use Rattle.cell_config.specs.Divisions.{Holds, cell_of, IsCellOf, AreCellsOf}
 use Rattle.cell_config.proofs.Lists.{zip_push}
 
 -- ---- one after the other

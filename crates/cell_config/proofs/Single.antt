@@ -1,24 +1,20 @@
 -- The configurations of a definition are one tree, or have one refusal.
-use Rattle.std.proofs.Common.{◌≡◌, ◌⊎◌, inl, inr, ℕ, ◌<◌, List, [], ◌∷◌, ◌++◌, take, Option, Some, None, refl, sym, ap, ◌∙◌, subst}
+use Rattle.std.proofs.Common.{◌≡◌, inl, inr, ℕ, ◌<◌, List, [], ◌∷◌, ◌++◌, take, Option, Some, None, refl, sym, ap, ◌∙◌, subst}
 use Rattle.std.specs.Prelude.{slice_get}
-use Rattle.std.specs.List.{AllZip}
 use Rattle.k_lexer.specs.declared.token.Token.{Token}
 use Rattle.k_terms.specs.declared.value.Content.{Content}
 use Rattle.grammar_terms.specs.Grammar.{Syntax}
 use Rattle.cell_forms.specs.declared.form.CellForm.{CellForm}
 use Rattle.cell_forms.specs.declared.form.Stop.{Stop}
-use Rattle.cell_forms.specs.Forms.{IsForm, IsStop}
 use Rattle.cell_forms.specs.Laws.{HasOneForm, HasOneStop, HasFormOrStop}
 use Rattle.cell_tokens.specs.declared.token.CellToken.{CellToken}
-use Rattle.cell_tokens.specs.CellTokens.{IsCellSplit}
 use Rattle.cell_tokens.proofs.Splitting.{one_cell_split}
 use Rattle.cell_trees.specs.declared.declared.Declared.{Declared}
 use Rattle.cell_trees.specs.declared.declared.Declared.TheVariants.{Program, Input, Fixed}
-use Rattle.cell_contents.specs.Readings.{Reading, IsOnly, content_of, IsContent}
+use Rattle.cell_contents.specs.Readings.{content_of, IsContent}
 use Rattle.cell_contents.specs.Words.{words_of}
 use Rattle.cell_contents.specs.Contents.{alone, IsRest, IsDeclaredBy, IsDeclared}
 use Rattle.cell_config.specs.declared.division.ConfigCell.{ConfigCell}
-use Rattle.cell_config.specs.declared.division.Place.{Place}
 use Rattle.cell_config.specs.declared.division.Division.{Division}
 use Rattle.cell_config.specs.Divisions.{signs_of, Holds, cell_of, IsCellOf, AreCellsOf, HasNoContent, IsBadAt, cell_at, content_place, stop_place, IsWhole, IsStopped, AreForms, IsBad, IsDivision, between}
 use Rattle.cell_config.specs.Cells.{IsDivided, AreDivided}

@@ -1,5 +1,5 @@
 -- The declared cells of a definition, or why there are none.
-use Rattle.std.specs.Prelude.{◌≡◌, ℕ, List, [], ◌∷◌, map, Option, Some, None, slice_get}
+use Rattle.std.specs.Prelude.{◌≡◌, ℕ, List, [], ◌∷◌, map, Some, None, slice_get}
 use Rattle.std.specs.List.{flat_map}
 use Rattle.k_lexer.specs.declared.token.Token.{Token}
 use Rattle.grammar_terms.specs.Grammar.{Syntax}

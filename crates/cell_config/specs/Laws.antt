@@ -1,9 +1,10 @@
 -- The laws of declared cells.
-use Rattle.std.specs.Prelude.{◌≡◌, ℕ, List}
+use Rattle.std.specs.Prelude.{◌≡◌, ◌≤◌, ℕ, List, length}
 use Rattle.k_lexer.specs.declared.token.Token.{Token}
-use Rattle.grammar_terms.specs.Grammar.{Syntax}
+use Rattle.grammar_terms.specs.Grammar.{Syntax, order_of}
 use Rattle.file_reader.specs.declared.sentence.Sentence.{Sentence}
 use Rattle.cell_trees.specs.Trees.{Tree}
+use Rattle.cell_contents.specs.Soundness.{AreSoundContents}
 use Rattle.cell_config.specs.declared.refusal.CellRefusal.{CellRefusal}
 use Rattle.cell_config.specs.Cells.{IsCells, IsCellRefusal}
 
@@ -24,3 +25,9 @@ abbrev pub HasNotBoth : Type 0
 HasNotBoth =
     (g : Syntax) (before : List (List ℕ)) (text : List ℕ) (tokens : List Token) (sentences : List Sentence) (after later : List (List ℕ)) (tree : Tree) (refusal : CellRefusal)
     → IsCells g before text tokens sentences after tree → IsCellRefusal g before text tokens sentences later refusal → ⊥
+
+-- The cells of a definition, in a grammar without builtin productions, have sound contents.
+abbrev pub AreDeclaredSoundly : Type 0
+AreDeclaredSoundly =
+    (g : Syntax) (before : List (List ℕ)) (text : List ℕ) (tokens : List Token) (sentences : List Sentence) (after : List (List ℕ)) (tree : Tree)
+    → length g.prods ≤ g.declared → IsCells g before text tokens sentences after tree → AreSoundContents (order_of g) tree

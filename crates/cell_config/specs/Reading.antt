@@ -1,5 +1,5 @@
 -- What is read of the cells of a configuration, as the code keeps it.
-use Rattle.std.specs.Prelude.{◌≡◌, ℕ, List, length, Option, Some, None}
+use Rattle.std.specs.Prelude.{ℕ, List, Option, Some, None}
 use Rattle.grammar_terms.specs.Grammar.{Syntax}
 use Rattle.cell_forms.specs.declared.form.CellForm.{CellForm}
 use Rattle.cell_tokens.specs.declared.token.CellToken.{CellToken}

@@ -1,11 +1,12 @@
 -- Why the configurations of a definition are none.
-use Rattle.std.specs.Prelude.{ℕ, ◌&&◌, not, nat_lt, cond, Bool, true, false, List, [], ◌∷◌, ◌++◌, length, codes, Option, Some, None, is_some, is_none, option_map}
+use Rattle.std.specs.Prelude.{ℕ, ◌&&◌, not, nat_lt, cond, Bool, List, [], ◌∷◌, ◌++◌, length, codes, Option, Some, None, is_some, is_none, option_map}
 use Rattle.std.specs.List.{list_any, list_all}
 use Rattle.std.specs.Option.{option_or}
 use Rattle.production_reader.specs.Allowed.{same_text}
 use Rattle.rule_terms.specs.Sound.{cell_limit}
 use Rattle.cell_trees.specs.declared.declared.Declared.{Declared}
 use Rattle.cell_trees.specs.declared.declared.Declared.TheVariants.{Program, Input, Fixed}
+use Rattle.sorted_grammar.specs.declared.fault.What.TheVariants.{Cells as CellCount}
 use Rattle.cell_config.specs.declared.refusal.CellRefusal.{CellRefusal}
 use Rattle.cell_config.specs.declared.refusal.CellRefusal.TheVariants.{TwoCells, NoK, CellContent, TooMany}
 use Rattle.cell_config.specs.declared.division.ConfigCell.{ConfigCell}
@@ -100,7 +101,7 @@ no_k divisions = cond (list_all lacks_program divisions) (Some NoK) None
 -- where nothing else is wrong there is one configuration
 abbrev pub too_many : List Division → Option CellRefusal
 too_many [] = None
-too_many (division ∷ others) = cond (nat_lt cell_limit (length division.cells)) (Some (TooMany (length division.cells))) None
+too_many (division ∷ others) = cond (nat_lt cell_limit (length division.cells)) (Some (TooMany CellCount (length division.cells))) None
 
 -- Why configurations are none, by what they are in the order of the text: a name twice, no program, a bad content, too many cells.
 abbrev pub refusal_of : List Division → Option CellRefusal

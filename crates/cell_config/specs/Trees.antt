@@ -1,5 +1,5 @@
 -- Cells that make a tree, as the code keeps it.
-use Rattle.std.specs.Prelude.{◌≡◌, ℕ, ◌<◌, ◌≤◌, true, List, [], ◌∷◌, length, map, Option, Some, None, IfSome, is_some, slice_get}
+use Rattle.std.specs.Prelude.{◌≡◌, ℕ, ◌<◌, ◌≤◌, true, List, [], ◌∷◌, length, map, Option, Some, IfSome, is_some, slice_get}
 use Rattle.std.specs.List.{AllByRecursion}
 use Rattle.cell_trees.specs.declared.declared.Declared.{Declared}
 use Rattle.cell_trees.specs.declared.declared.Declared.TheVariants.{Program}

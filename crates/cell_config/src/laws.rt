@@ -1,6 +1,6 @@
 //! Laws of the definitions that contracts cite. The contract of each function is the law. They follow from those of the forms of
 //! cells.
-ghost use Rattle.cell_config.specs.Laws.{HasOneTree, HasOneRefusal, HasNotBoth};
+ghost use Rattle.cell_config.specs.Laws.{HasOneTree, HasOneRefusal, HasNotBoth, AreDeclaredSoundly};
 
 use cell_forms::laws::{form_or_stop, one_form, one_stop, tree};
 
@@ -31,3 +31,8 @@ pub fn not_both()
     one_stop();
     form_or_stop();
 }
+
+/// What the cells declare is sound.
+pub fn declared_soundly()
+    ensures { AreDeclaredSoundly }
+{}

@@ -14,6 +14,3 @@ mod tree;
 
 pub use read::read_cells;
 pub use refusal::CellRefusal;
-
-#[cfg(test)]
-mod tests;

@@ -1,4 +1,5 @@
 use k_terms::Text;
+use sorted_grammar::What;
 
 /// Why the configurations of a definition are none. The first of these that holds is told.
 #[derive(Debug, Drop, PartialEq, Eq)]
@@ -11,8 +12,8 @@ pub enum CellRefusal {
     /// In the cell of this name, the innermost that is open, the text is none of a configuration; or the cell has the program and
     /// isn't `k`. The name is empty where no cell is open.
     CellContent { name: Text },
-    /// There are more than 64 cells: this many.
-    TooMany { n: u64 },
+    /// There are more cells than there may be, 64: this many.
+    TooMany { what: What, n: u64 },
     /// Memory was wanting.
     Memory,
 }

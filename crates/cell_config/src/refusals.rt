@@ -7,6 +7,7 @@ use crate::division::{ConfigCell, Division};
 use crate::refusal::CellRefusal;
 use cell_trees::Declared;
 use k_terms::{Memory, Text, copy_text};
+use sorted_grammar::What;
 use std::alloc::Global;
 
 /// The most cells of a configuration.
@@ -232,7 +233,10 @@ fn too_many(divisions: &[Division]) -> Option<CellRefusal>
     };
     let count = division.cells.len();
     if CELL_LIMIT < count {
-        return Some(CellRefusal::TooMany { n: count as u64 });
+        return Some(CellRefusal::TooMany {
+            what: What::Cells,
+            n: count as u64,
+        });
     }
     None
 }

@@ -71,7 +71,7 @@ same_reading (Members first items) (Sequence other others) k e = let n = ap numb
 same_reading (Members first items) (Entries other others) k e = let n = ap number k in absurd (omega (arith, n))
 same_reading (Members first items) (Members other others) k e = ap (members_by (Members first items)) e
 
-map_flat : {Y : Type 0} (f : Item → Y) (entries : List (Item × Item)) → map f (flat entries) ≡ flat_map (λ (entry : Item × Item). f entry.0 ∷ f entry.1 ∷ []) entries
+pub map_flat : {Y : Type 0} (f : Item → Y) (entries : List (Item × Item)) → map f (flat entries) ≡ flat_map (λ (entry : Item × Item). f entry.0 ∷ f entry.1 ∷ []) entries
 map_flat f [] = refl
 map_flat f (entry ∷ entries) = ap (λ ys. f entry.0 ∷ f entry.1 ∷ ys) (map_flat f entries)
 

@@ -6,3 +6,5 @@ pub mod Growing
 pub mod Reading
 pub mod Choosing
 pub mod Entering
+pub mod Valuing
+pub mod Sounding

@@ -6,3 +6,4 @@ pub mod Laws
 pub mod Tails
 pub mod Tables
 pub mod Choices
+pub mod Soundness

@@ -11,10 +11,9 @@ mod marks;
 mod read;
 mod table;
 mod tails;
-#[cfg(test)]
-mod tests;
 mod ways;
 mod words;
 
 pub use fault::ContentFault;
 pub use read::read_content;
+pub use ways::Way;

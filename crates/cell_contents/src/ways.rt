@@ -2,7 +2,7 @@
 
 /// What an item is: one of a sequence, a key or a value of a map, or a member of a list.
 #[derive(Clone, Copy, Debug, PartialEq, Eq)]
-pub(crate) enum Way {
+pub enum Way {
     Item,
     Key,
     Value,

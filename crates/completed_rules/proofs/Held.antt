@@ -20,7 +20,7 @@ use Rattle.cell_trees.specs.declared.declared.Declared.TheVariants.{Program, Inp
 use Rattle.cell_trees.specs.Trees.{Tree as Declaration}
 use Rattle.cell_trees.specs.Initials.{held_at}
 use Rattle.cell_trees.specs.Defaults.{body_of}
-use Rattle.completed_rules.specs.Contents.{IsSoundContent, AreSoundContents}
+use Rattle.cell_contents.specs.Soundness.{IsSoundContent, AreSoundContents}
 
 -- a test of the values of a content
 abbrev pub content_passes : (Value → Bool) → Content → Bool

@@ -26,7 +26,7 @@ use Rattle.cell_trees.specs.Initials.{held_at}
 use Rattle.cell_trees.specs.Defaults.{body_of}
 use Rattle.rule_completion.specs.Writing.{written}
 use Rattle.rule_completion.specs.Completed.{forest}
-use Rattle.completed_rules.specs.Contents.{AreSoundContents}
+use Rattle.cell_contents.specs.Soundness.{AreSoundContents}
 use Rattle.completed_rules.proofs.Places.{Place, IsIn}
 use Rattle.completed_rules.proofs.Defaults.{parent_has_cells}
 use Rattle.completed_rules.proofs.Drafted.{with_body}

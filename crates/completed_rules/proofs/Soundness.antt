@@ -19,7 +19,7 @@ use Rattle.strictness.specs.SoundDrafts.{spots_of}
 use Rattle.cell_trees.specs.Trees.{Tree as Declaration}
 use Rattle.cell_trees.specs.Initials.{held_at}
 use Rattle.cell_trees.specs.Defaults.{body_of}
-use Rattle.completed_rules.specs.Contents.{AreSoundContents}
+use Rattle.cell_contents.specs.Soundness.{AreSoundContents}
 use Rattle.completed_rules.specs.Laws.{IsCompletedSoundly}
 use Rattle.completed_rules.proofs.Places.{Place, mark_at}
 use Rattle.completed_rules.proofs.Sides.{of_written, of_added, of_filled}

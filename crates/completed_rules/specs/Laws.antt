@@ -7,7 +7,7 @@ use Rattle.rule_terms.specs.Sound.{IsSoundRule}
 use Rattle.strictness.specs.SoundDrafts.{IsSoundDraft}
 use Rattle.cell_trees.specs.Trees.{Tree as Declaration, IsTree}
 use Rattle.rule_completion.specs.Rules.{IsWrittenDraft, IsCompleted}
-use Rattle.completed_rules.specs.Contents.{AreSoundContents}
+use Rattle.cell_contents.specs.Soundness.{AreSoundContents}
 use Rattle.completed_rules.specs.Fits.{FitsCells}
 
 -- A sound draft that fits declared cells with sound contents is completed to a sound rule.
