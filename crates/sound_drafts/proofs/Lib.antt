@@ -1,0 +1,10 @@
+pub mod Strict
+pub mod Bags
+pub mod TextCells
+pub mod Dots
+pub mod Numbers
+pub mod Rests
+pub mod Declared
+pub mod Mentioned
+pub mod Contents
+pub mod Cells
