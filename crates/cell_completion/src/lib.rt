@@ -11,6 +11,3 @@ mod tree;
 pub use building::first_mark;
 pub use complete::{CompletionFault, complete_cells};
 pub use tree::{Tree, Written};
-
-#[cfg(test)]
-mod tests;

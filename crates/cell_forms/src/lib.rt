@@ -6,8 +6,6 @@ pub mod laws;
 mod read;
 mod stack;
 mod state;
-#[cfg(test)]
-mod tests;
 
 pub use form::{CellForm, FormFault, Sign, Stop};
 pub use read::read_form;

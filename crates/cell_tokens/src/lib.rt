@@ -12,8 +12,6 @@ mod signs;
 mod split;
 mod tags;
 mod terminals;
-#[cfg(test)]
-mod tests;
 mod token;
 mod words;
 

@@ -11,6 +11,3 @@ pub use beginning::initial;
 pub use declared::Declared;
 pub use patterns::{default_cell, defaults};
 pub use tree::CellTree;
-
-#[cfg(test)]
-mod tests;

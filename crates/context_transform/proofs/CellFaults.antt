@@ -26,7 +26,7 @@ told_as_cells : (divisions : List Division) (refusal : CellRefusal) → refusal_
 told_as_cells divisions (TwoCells name) is = refl
 told_as_cells divisions NoK is = refl
 told_as_cells divisions (CellContent name) is = refl
-told_as_cells divisions (TooMany n) is = refl
+told_as_cells divisions (TooMany what n) is = refl
 told_as_cells divisions NoCellMemory is = absurd (no_want_of_cells divisions is)
 
 module _ (g : Syntax) (before : List (List ℕ)) (text : List ℕ) (tokens : List Token) (sentences : List Sentence) where

@@ -8,6 +8,7 @@ use Rattle.k_lexer.specs.declared.fault.LexFault.TheVariants.{BadByte, OpenStrin
 use Rattle.k_lexer.specs.Lexing.{IsFault as IsLexFault}
 use Rattle.module_reader.specs.declared.fault.ModuleFault.TheVariants.{Expected, NoModule, ImportCycle, TwoModules, Memory as ModuleMemory}
 use Rattle.sorted_grammar.specs.declared.fault.SortFault.TheVariants.{TooMany as TooManySorts, NoSort, SubsortCycle, CyclicProduction, Memory as SortMemory}
+use Rattle.sorted_grammar.specs.declared.fault.What.TheVariants.{Cells as CellCount}
 use Rattle.grammar_terms.specs.Builtins.{with_builtins}
 use Rattle.grammar_terms.specs.Grammar.{Syntax}
 use Rattle.file_reader.specs.declared.sentence.Sentence.{Sentence}
@@ -78,7 +79,7 @@ lacking_proper : (lacks : Bool) → cond lacks (Some NoK) None ≡ Some CellMemo
 lacking_proper true is = cc
 lacking_proper false is = cc
 
-counted_proper : (many : Bool) (n : ℕ) → cond many (Some (TooManyCells n)) None ≡ Some CellMemory → ⊥
+counted_proper : (many : Bool) (n : ℕ) → cond many (Some (TooManyCells CellCount n)) None ≡ Some CellMemory → ⊥
 counted_proper true n is = cc
 counted_proper false n is = cc
 
@@ -102,7 +103,7 @@ cells_proper : (divisions : List Division) (refusal : CellRefusal) → refusal_o
 cells_proper divisions (TwoCells name) is = refl
 cells_proper divisions NoK is = refl
 cells_proper divisions (CellContent name) is = refl
-cells_proper divisions (TooManyCells n) is = refl
+cells_proper divisions (TooManyCells what n) is = refl
 cells_proper divisions CellMemory is = absurd (no_want_of_cells divisions is)
 
 -- ---- rules

@@ -13,6 +13,3 @@ pub use assembling::{Assembly, assemble};
 pub use completion::complete;
 pub use fault::{CellsUnclear, DefFault};
 pub use laws::{one_reason, one_rule, rule_or_reason};
-
-#[cfg(test)]
-mod tests;

@@ -7,6 +7,3 @@ mod syntax;
 
 pub use fault::SyntaxFault;
 pub use syntax::{Definition, read_definition};
-
-#[cfg(test)]
-mod tests;

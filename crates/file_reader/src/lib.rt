@@ -12,8 +12,6 @@ mod seen;
 mod sentence;
 mod sentences;
 mod sorts;
-#[cfg(test)]
-mod tests;
 mod words;
 
 pub use file::{FileModules, FileStop};

@@ -28,6 +28,3 @@ pub use shape::{Readings, Shape};
 pub use sort_steps::{lone_sort, step_from};
 pub use tokens::{is_empty, is_empty_at, is_leaf, is_terminal_at, is_variable_at, is_wild_at};
 pub use word::{Word, WordKind};
-
-#[cfg(test)]
-mod tests;

@@ -11,6 +11,3 @@ mod walk;
 
 pub use cycle::first_on_cycle;
 pub use orders::{closure, order};
-
-#[cfg(test)]
-mod tests;

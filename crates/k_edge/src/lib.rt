@@ -13,8 +13,6 @@ mod shelf;
 mod sink;
 mod sure_shelf;
 mod sure_sink;
-#[cfg(test)]
-mod tests;
 
 pub use mem_shelf::MemShelf;
 pub use mem_sink::MemSink;

@@ -9,8 +9,6 @@ mod fault;
 mod front;
 pub mod laws;
 mod lexing;
-#[cfg(test)]
-mod tests;
 mod token;
 mod whole;
 

@@ -26,6 +26,3 @@ pub use value::{Content, Pairs, Symbol, Text, Value, Values};
 
 /// A list of numbers.
 pub type Numbers = Many<u64>;
-
-#[cfg(test)]
-mod tests;

@@ -96,7 +96,7 @@ abbrev pub cell_refusal_line : CellRefusal → List ℕ
 cell_refusal_line (TwoCells name) = named (codes "definition 22 TwoCells name=") name
 cell_refusal_line NoK = codes "definition 23 NoK" ++ line_end
 cell_refusal_line (CellContent name) = named (codes "definition 24 CellContent name=") name
-cell_refusal_line (TooManyCells n) = counted Cells n
+cell_refusal_line (TooManyCells what n) = counted what n
 cell_refusal_line CellMemory = []
 
 -- rules are told by their numbers

@@ -7,7 +7,6 @@ use crate::def_fault::{count_line, named_line, numbered_line};
 use cell_config::CellRefusal;
 use context_transform::CellsUnclear;
 use k_terms::Memory;
-use sorted_grammar::What;
 use std::alloc::Global;
 
 /// The line of a refusal of the configurations.
@@ -22,7 +21,7 @@ pub fn line_of_cell_refusal(alloc: Global, refusal: &CellRefusal) -> Result<Vec<
         CellRefusal::CellContent { name } => {
             named_line(alloc, "definition 24 CellContent name=", name.as_slice())
         }
-        CellRefusal::TooMany { n } => count_line(alloc, What::Cells, *n),
+        CellRefusal::TooMany { what, n } => count_line(alloc, *what, *n),
         CellRefusal::Memory => Ok(Vec::new(alloc)),
     }
 }

@@ -14,6 +14,3 @@ pub use conflicts::{conflict, overlap};
 pub use live::{Live, equal_live};
 pub use place::{End, Marks, Place};
 pub use site::{Fired, Parts, Site};
-
-#[cfg(test)]
-mod tests;

@@ -16,6 +16,3 @@ pub use file_reader::Sentence;
 pub use modules::Modules;
 pub use production_reader::{Attrs, Form, Item, Prod, Strict};
 pub use reading::read_modules;
-
-#[cfg(test)]
-mod tests;

@@ -10,6 +10,3 @@ mod words;
 pub use configurations::configuration_text;
 pub use values::{print_content, print_value, value_text};
 pub use words::Words;
-
-#[cfg(test)]
-mod tests;

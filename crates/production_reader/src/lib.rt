@@ -18,6 +18,3 @@ pub use groups::read_groups;
 pub use prod::{Attrs, Form, Item, Prod, Strict};
 pub use source::{Lexeme, Source};
 pub use stop::Stop;
-
-#[cfg(test)]
-mod tests;

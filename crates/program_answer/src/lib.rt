@@ -6,6 +6,3 @@ mod lines;
 mod symbols;
 
 pub use answer::{Answer, Told, answer_text};
-
-#[cfg(test)]
-mod tests;

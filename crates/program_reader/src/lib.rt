@@ -11,6 +11,3 @@ pub use reading::read_words;
 pub use refusal::ReadRefusal;
 pub use texts::read_text;
 pub use values::value;
-
-#[cfg(test)]
-mod tests;

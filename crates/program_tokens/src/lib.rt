@@ -9,8 +9,6 @@ pub mod laws;
 mod literals;
 mod split;
 mod terminals;
-#[cfg(test)]
-mod tests;
 mod words;
 
 pub use base::number_tokens;

@@ -9,8 +9,6 @@ mod mark;
 mod read;
 mod stack;
 mod state;
-#[cfg(test)]
-mod tests;
 
 pub use form::{Cell, FormFault, Inside, Item, RuleForm, Side};
 pub use read::read_form;

@@ -12,6 +12,3 @@ mod writing;
 
 pub use complete::complete_rule;
 pub use refusal::NoCompletion;
-
-#[cfg(test)]
-mod tests;

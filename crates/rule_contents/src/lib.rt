@@ -16,8 +16,3 @@ pub use grammar::{ContentGrammar, content_grammar};
 pub use operators::operator_place;
 pub use reading::{ContentFault, Form, read_condition, read_content};
 pub use words::words_of;
-
-#[cfg(test)]
-mod samples;
-#[cfg(test)]
-mod tests;

@@ -15,6 +15,3 @@ mod variables;
 pub use draft::read_draft;
 pub use fault::{DraftFault, Unbound};
 pub use reading::{Condition, Reading, RuleReading};
-
-#[cfg(test)]
-mod tests;

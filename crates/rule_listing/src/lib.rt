@@ -5,6 +5,3 @@
 mod lines;
 
 pub use lines::rule_lines;
-
-#[cfg(test)]
-mod tests;

@@ -21,6 +21,3 @@ pub use parts::{Part, Side, What, add_form};
 pub use patterns::{front_parts, last_tail, number_of, pattern_of};
 pub use sides::{add_variables, token_at, whole_sort};
 pub use terms::{Occurrence, add_term};
-
-#[cfg(test)]
-mod tests;

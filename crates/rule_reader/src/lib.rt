@@ -13,6 +13,3 @@ mod told;
 pub use grammar::RuleGrammar;
 pub use refusal::{RuleFault, RuleRefusal};
 pub use rule::read_rule;
-
-#[cfg(test)]
-mod tests;

@@ -17,6 +17,3 @@ pub use equality::{equal_defs, equal_rule};
 pub use pattern::{Body, CellPat, Pattern};
 pub use plain::Plain;
 pub use rule::{Cond, Draft, Origin, Rule};
-
-#[cfg(test)]
-mod tests;

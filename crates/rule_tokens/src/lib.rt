@@ -14,8 +14,6 @@ mod sorts;
 mod split;
 mod table;
 mod terminals;
-#[cfg(test)]
-mod tests;
 mod token;
 mod words;
 

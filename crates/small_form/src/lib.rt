@@ -10,8 +10,6 @@ mod reader;
 mod rule;
 mod small;
 mod term;
-#[cfg(test)]
-mod tests;
 
 pub use defined::language;
 pub use definition::read_definition;

@@ -17,6 +17,3 @@ mod subsorts;
 pub use fault::{SortFault, What};
 pub use grammar_terms::{Grammar, Part, Production, Readings, Shape, Word, WordKind};
 pub use reading::read_grammar;
-
-#[cfg(test)]
-mod tests;

@@ -19,6 +19,3 @@ pub use rows::{add, add_all};
 pub use sign::{Sign, same_code};
 pub use steps::{is_read, one_more};
 pub use tokens::add_token;
-
-#[cfg(test)]
-mod tests;

@@ -8,6 +8,3 @@ mod readings;
 mod table;
 
 pub use readings::all_readings;
-
-#[cfg(test)]
-mod tests;

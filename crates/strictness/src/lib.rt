@@ -9,6 +9,3 @@ mod rules;
 
 pub use fault::StrictFault;
 pub use rules::heat_cool;
-
-#[cfg(test)]
-mod tests;

@@ -1,0 +1,8 @@
+use Rattle.cell_tokens.proofs.Whole.{text_tokens}
+use Rattle.cell_tests.proofs.contents.split_of.Goals as goal
+
+pub split_cells-requires-clause-stand : goal.split_cells-requires-clause-stand
+split_cells-requires-clause-stand c = (text_tokens c.as_bytes-bytes.result.now c.in_ok-base.base.items c.deref.result.now c.in_ok-base.ensures.ok c.deref.ensures.value).0
+
+pub split_cells-requires-clause-whole : goal.split_cells-requires-clause-whole
+split_cells-requires-clause-whole c = (text_tokens c.as_bytes-bytes.result.now c.in_ok-base.base.items c.deref.result.now c.in_ok-base.ensures.ok c.deref.ensures.value).1

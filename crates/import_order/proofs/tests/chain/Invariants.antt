@@ -1,5 +1,0 @@
-use Rattle.import_order.proofs.Building.{IsBuilt}
-use Rattle.import_order.proofs.tests.chain.Given as goal
-
-abbrev pub invariant-loop-number : goal.invariant-loop-number
-invariant-loop-number l = IsBuilt l.graph.items l.number l.count
