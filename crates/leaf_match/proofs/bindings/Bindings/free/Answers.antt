@@ -1,0 +1,5 @@
+use Rattle.leaf_match.proofs.Leaves.{free_more}
+use Rattle.leaf_match.proofs.bindings.Bindings.free.Goals as goal
+
+pub loop-sort-preserved : goal.loop-sort-preserved
+loop-sort-preserved c = free_more c.loop-sort.bounds.items c.push.new.self.items c.args.vars.now c.loop-sort._sort-index c.loop-sort-test.true c.in_ok-push.ensures.items c.loop-sort.invariant

@@ -1,0 +1,14 @@
+//! Contents of cells, and the patterns of a rule that stand for them: what the variables of a rule stand for.
+#![tactic(auto)]
+
+mod bindings;
+mod bodies;
+mod bound;
+mod entries;
+mod maps;
+mod patterns;
+mod variables;
+
+pub use bindings::{Bindings, bind_leaf};
+pub use bound::Bound;
+pub use variables::Variables;
