@@ -16,7 +16,7 @@ use Rattle.rule_parts.specs.declared.parts.What.{What}
 use Rattle.rule_parts.specs.declared.parts.What.TheVariants.{Item, Tail, Entry, Rest, Made, Inner, Whole}
 use Rattle.rule_parts.specs.declared.terms.Occurrence.{Occurrence}
 use Rattle.rule_parts.specs.Terms.{occurrences, pattern_of, variable_at}
-use Rattle.rule_parts.specs.Sides.{is_left, stands, item_sort, whole_sort, what_occurrences, part_occurrences, variables_of, sequence_parts, what_sequence, what_items, what_entries, what_made, on_side, of_side}
+use Rattle.rule_parts.specs.Sides.{is_left, stands, item_sort, whole_sort, what_occurrences, part_occurrences, as_list, variables_of, sequence_parts, what_sequence, what_items, what_entries, what_rests, what_made, on_side, of_side}
 use Rattle.sound_drafts.proofs.Mentioned.{row_is, Occurs, occurs_left, occurs_right, variable_occurs, term_occurs}
 
 only : (b : Bool) → (b || false) ≡ true → b ≡ true
@@ -116,6 +116,22 @@ module _ (g : Productions) (leaves : List Leaf) (vars : List Occurrence) (x : �
   entries_each k on (Inner at) e = absurd (none_any in_entry e)
   entries_each k on Whole e = absurd (none_any in_entry e)
 
+  abbrev pub is_it : ℕ → Bool
+  is_it y = x == y
+
+  listed_rest : (o : Option ℕ) → list_any is_it (as_list o) ≡ true → is_rest x o ≡ true
+  listed_rest None e = absurd (none_any is_it e)
+  listed_rest (Some y) e = only (x == y) e
+
+  rests_each : (k : Kind) (on : Bool) (what : What Shape) → list_any is_it (what_rests leaves vars what) ≡ true → In k on what
+  rests_each k on (Item shape) e = absurd (none_any is_it e)
+  rests_each k on (Tail at) e = absurd (none_any is_it e)
+  rests_each k on (Entry key value) e = absurd (none_any is_it e)
+  rests_each k on (Rest at) e = variable_occurs g leaves vars x (slice_get leaves at) on (whole_sort k) (listed_rest (variable_at vars leaves at) e)
+  rests_each k on (Made shape) e = absurd (none_any is_it e)
+  rests_each k on (Inner at) e = absurd (none_any is_it e)
+  rests_each k on Whole e = absurd (none_any is_it e)
+
   -- what stands in one of the parts of a side
   of_parts : {A : Type 0} (test : A → Bool) (f : What Shape → List A) (k : Kind) (left : Bool) → ((on : Bool) (what : What Shape) → list_any test (f what) ≡ true → In k on what)
       → (parts : List (Part Shape)) → list_any test (of_side left f parts) ≡ true → Occurs g leaves vars x (flat_map (part_occurrences g leaves k) parts)
@@ -144,3 +160,7 @@ module _ (g : Productions) (leaves : List Leaf) (vars : List Occurrence) (x : �
   pub entries_occur : (k : Kind) (left : Bool) (parts : List (Part Shape)) → list_any in_entry (of_side left (what_entries g leaves vars) parts) ≡ true
       → Occurs g leaves vars x (flat_map (part_occurrences g leaves k) parts)
   entries_occur k left parts e = of_parts in_entry (what_entries g leaves vars) k left (entries_each k) parts e
+
+  pub rests_occur : (k : Kind) (left : Bool) (parts : List (Part Shape)) → list_any is_it (of_side left (what_rests leaves vars) parts) ≡ true
+      → Occurs g leaves vars x (flat_map (part_occurrences g leaves k) parts)
+  rests_occur k left parts e = of_parts is_it (what_rests leaves vars) k left (rests_each k) parts e

@@ -13,7 +13,7 @@ use Rattle.draft_laws.proofs.Fitting.{from}
 use Rattle.draft_laws.proofs.ReadDrafts.{IsMade, made_leaves, found}
 use Rattle.draft_laws.proofs.SoundCells.{text_cells, spots_on, left_are, right_are}
 
-there : {X : Type 0} (xs : List X) (n : ℕ) → n < length xs → (x : X) × (slice_get xs n ≡ Some x)
+pub there : {X : Type 0} (xs : List X) (n : ℕ) → n < length xs → (x : X) × (slice_get xs n ≡ Some x)
 there [] n less = absurd (omega (arith, less))
 there (x ∷ xs) zero less = (x, refl)
 there (x ∷ xs) (suc n) less = there xs n (omega (arith, less))

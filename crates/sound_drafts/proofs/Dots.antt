@@ -59,7 +59,7 @@ no_number true n none = absurd (none refl)
 no_number false n none = refl
 
 -- a token is no tag and one
-no_tag : (tokens : List RuleToken) (at start : ℕ) → at ≡ start → IsNoTag tokens at → IsTag tokens start → ⊥
+pub no_tag : (tokens : List RuleToken) (at start : ℕ) → at ≡ start → IsNoTag tokens at → IsTag tokens start → ⊥
 no_tag tokens at start same shut tag =
     let one : Some shut.token ≡ Some tag.token = sym shut.is ∙ ap (slice_get tokens) same ∙ tag.is in
     let token : shut.token ≡ tag.token = (let f : Some shut.token ≡ Some tag.token = one in cc) in
@@ -95,7 +95,7 @@ module _ (d : Declaration) (g : Syntax) (draft : Draft) (tree : IsTree d) (made 
       ]
 
   -- two cells with one tag are one
-  same_one : (tells : AllTold) (one : TextCell) → Has cells one → (other : TextCell) → Has cells other → other.held.start ≡ one.held.start → other ≡ one
+  pub same_one : (tells : AllTold) (one : TextCell) → Has cells one → (other : TextCell) → Has cells other → other.held.start ≡ one.held.start → other ≡ one
   same_one tells one has other also starts =
       one_cell 0 cells other one (text d g draft tree made).1.rise also has (tells.marks_are other also ∙ ap (mark_of made.tokens) starts ∙ sym (tells.marks_are one has))
 

@@ -29,19 +29,19 @@ row_is x (more_of-Pattern part parts) = ap (λ b. mentions x part || b) (row_is 
 hidden_is : (x : ℕ) (parts : List Pattern) → row_mentions x (hidden-the_row-Pattern-0 parts) ≡ list_any (mentions x) parts
 hidden_is x parts = row_is x (hidden-the_row-Pattern-0 parts) ∙ ap (list_any (mentions x)) (items_hidden-the_row-Pattern-0 parts)
 
-mentions-Node : (x p : ℕ) (parts : List Pattern) → mentions x (Node p parts) ≡ list_any (mentions x) parts
+pub mentions-Node : (x p : ℕ) (parts : List Pattern) → mentions x (Node p parts) ≡ list_any (mentions x) parts
 unfolding mentions
 mentions-Node x p parts = hidden_is x parts
 
-mentions-Apply : (x : ℕ) (op : Op) (parts : List Pattern) → mentions x (Apply op parts) ≡ list_any (mentions x) parts
+pub mentions-Apply : (x : ℕ) (op : Op) (parts : List Pattern) → mentions x (Apply op parts) ≡ list_any (mentions x) parts
 unfolding mentions
 mentions-Apply x op parts = hidden_is x parts
 
-mentions-Items : (x p : ℕ) (parts : List Pattern) (rest : Option ℕ) → mentions x (Items p parts rest) ≡ (list_any (mentions x) parts || is_rest x rest)
+pub mentions-Items : (x p : ℕ) (parts : List Pattern) (rest : Option ℕ) → mentions x (Items p parts rest) ≡ (list_any (mentions x) parts || is_rest x rest)
 unfolding mentions
 mentions-Items x p parts rest = ap (λ b. b || is_rest x rest) (hidden_is x parts)
 
-mentions-Seq : (x : ℕ) (parts : List Pattern) (rest : Option ℕ) → mentions x (Seq parts rest) ≡ (list_any (mentions x) parts || is_rest x rest)
+pub mentions-Seq : (x : ℕ) (parts : List Pattern) (rest : Option ℕ) → mentions x (Seq parts rest) ≡ (list_any (mentions x) parts || is_rest x rest)
 unfolding mentions
 mentions-Seq x parts rest = ap (λ b. b || is_rest x rest) (hidden_is x parts)
 
@@ -152,7 +152,7 @@ module _ (g : Productions) (leaves : List Leaf) (vars : List Occurrence) (x : �
   tail_mentions (FreezerP' p i _ parts) e = absurd (let f : false ≡ true = e in cc)
   tail_mentions (ApplyP' op _ parts) e = absurd (let f : false ≡ true = e in cc)
 
-  last_any : (parts : List Pattern) (n : ℕ) (o : Option Pattern) → slice_get parts n ≡ o → is_rest x (option_and_then (tail_of vars) o) ≡ true → list_any (mentions x) parts ≡ true
+  pub last_any : (parts : List Pattern) (n : ℕ) (o : Option Pattern) → slice_get parts n ≡ o → is_rest x (option_and_then (tail_of vars) o) ≡ true → list_any (mentions x) parts ≡ true
   last_any parts n None at e = absurd (let f : false ≡ true = e in cc)
   last_any parts n (Some part) at e = any_at (mentions x) n parts part at (tail_mentions part e)
 

@@ -1,5 +1,5 @@
 -- A rest of cells is a variable of the sort of such rests.
-use Rattle.std.proofs.Common.{◌≡◌, inl, inr, ℕ, Bool, true, false, cond, ◌||◌, Option, Some, None, option_map, refl, sym, ap, subst, ◌∙◌, Contains}
+use Rattle.std.proofs.Common.{◌≡◌, inl, inr, ℕ, Bool, true, false, cond, ◌||◌, Some, None, option_map, refl, sym, ap, subst, ◌∙◌, Contains}
 use Rattle.std.proofs.lemmas.Option.{slice_get-map}
 use Rattle.std.specs.Prelude.{slice_get}
 use Rattle.k_terms.specs.Sorts.{sort_bag}
@@ -24,16 +24,16 @@ use Rattle.sound_drafts.proofs.Dots.{cells, leaves, body_found, all_found, AllTo
 
 module _ (d : Declaration) (g : Syntax) (draft : Draft) (tree : IsTree d) (made : IsMade d g draft) where
   -- the rest in a cell of cells is that of its `...`
-  record IsDotted (before behind : Bool) (start x : ℕ) (inside : Inside) : Type 0 where
-    holds : has_cells_in inside ≡ true
-    dots : (before || behind) ≡ true
-    number : number_of made.vars start ≡ x
+  pub record IsDotted (before behind : Bool) (start x : ℕ) (inside : Inside) : Type 0 where
+    pub holds : has_cells_in inside ≡ true
+    pub dots : (before || behind) ≡ true
+    pub number : number_of made.vars start ≡ x
 
   some_number : (b : Bool) (n x : ℕ) → cond b (Some n) None ≡ Some x → (b ≡ true) × (n ≡ x)
   some_number true n x e = (refl, let f : Some n ≡ Some x = e in cc)
   some_number false n x e = absurd (let f : None ≡ Some x = e in cc)
 
-  rest_open : (cell start x : ℕ) (before behind : Bool) (inside : Inside)
+  pub rest_open : (cell start x : ℕ) (before behind : Bool) (inside : Inside)
       → rest_in (productions_of g) (leaves d g draft tree made) d.shapes made.reading.contents made.vars made.tokens cell start before behind inside ≡ Some x → IsDotted before behind start x inside
   rest_open cell start x before behind (CellsInside inner) e = let s = some_number (before || behind) (number_of made.vars start) x e in record { holds = refl; dots = s.0; number = s.1 }
   rest_open cell start x before behind (ContentInside first past) e = absurd (let f : None ≡ Some x = e in cc)

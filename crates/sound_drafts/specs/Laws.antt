@@ -1,20 +1,22 @@
 -- The laws of drafts that fit declared cells.
-use Rattle.std.specs.Prelude.{◌≡◌, ℕ, List, ◌++◌, map, filter, Some, None, IsTrue, Contains, slice_get}
+use Rattle.std.specs.Prelude.{◌≡◌, ℕ, ◌<◌, ◌||◌, not, List, ◌++◌, length, map, filter, Some, None, IsTrue, Contains, slice_get}
 use Rattle.k_terms.specs.Sorts.{sort_bag}
 use Rattle.k_lexer.specs.declared.token.Token.{Token}
+use Rattle.grammar_terms.specs.Builtins.{with_builtins}
 use Rattle.grammar_terms.specs.Grammar.{Syntax, order_of}
+use Rattle.sorted_grammar.specs.Sorting.{IsGrammar}
 use Rattle.file_reader.specs.declared.sentence.Sentence.{Sentence}
 use Rattle.rule_terms.specs.declared.defs.CellShape.{CellShape}
 use Rattle.rule_terms.specs.declared.rule.Draft.{Draft}
 use Rattle.rule_terms.specs.Numbers.{all_different}
-use Rattle.rule_terms.specs.Sound.{cells_rest}
+use Rattle.rule_terms.specs.Sound.{cells_rest, side_mentions, conditions_mention}
 use Rattle.rule_terms.specs.Spots.{Spot}
 use Rattle.rule_reader.specs.Rules.{IsRule}
 use Rattle.strictness.specs.Drafts.{strict_drafts}
 use Rattle.strictness.specs.SoundDrafts.{spots_of}
 use Rattle.cell_trees.specs.Trees.{Tree as Declaration, IsTree}
 use Rattle.rule_completion.specs.Writing.{is_new}
-use Rattle.completed_rules.specs.Fits.{FitsCells}
+use Rattle.completed_rules.specs.Fits.{occurs_beside, FitsCells}
 
 -- the rules of heating and cooling over the cell of programs
 abbrev pub StrictFit : Type 0
@@ -37,3 +39,26 @@ abbrev pub CellsFit : Type 0
 CellsFit =
     (d : Declaration) (g : Syntax) (before : List (List ℕ)) (text : List ℕ) (tokens : List Token) (rule : Sentence) (after : List (List ℕ)) (draft : Draft)
     → IsTree d → IsRule g d.shapes before text tokens rule after draft → HasFitCells d draft
+
+-- What is asked of the variables of a draft: each that stands anywhere is declared, and a rest of cells has the sort of such rests and stands in its cell alone.
+pub record HasKnownVariables (draft : Draft) : Type 0 where
+  pub known : (x : ℕ) → IsTrue (side_mentions x (spots_of draft.left ++ spots_of draft.right) || conditions_mention x draft.when) → x < length draft.vars
+  pub rests : (p : Spot) (x : ℕ) → Contains (spots_of draft.left) p → cells_rest p.body ≡ Some x
+      → (slice_get draft.vars x ≡ Some sort_bag) × IsTrue (not (occurs_beside draft p.mark x))
+
+-- the draft of a rule over declared cells
+abbrev pub KnowsItsVariables : Type 0
+KnowsItsVariables =
+    (d : Declaration) (g : Syntax) (before : List (List ℕ)) (text : List ℕ) (tokens : List Token) (rule : Sentence) (after : List (List ℕ)) (draft : Draft)
+    → IsTree d → IsRule g d.shapes before text tokens rule after draft → HasKnownVariables draft
+
+-- each variable of a draft stands on the left
+abbrev pub HasBoundVariables : Draft → Type 0
+HasBoundVariables draft = (x : ℕ) → x < length draft.vars → IsTrue (side_mentions x (spots_of draft.left))
+
+-- the draft of a rule over declared cells and the grammar of a definition: its sorts have names, so that no sort of contents is one of them
+abbrev pub BindsItsVariables : Type 0
+BindsItsVariables =
+    (sentences : List Sentence) (grammar : Syntax) (d : Declaration) (before : List (List ℕ)) (text : List ℕ) (tokens : List Token) (rule : Sentence)
+    (after : List (List ℕ)) (draft : Draft)
+    → IsGrammar sentences grammar → IsTree d → IsRule (with_builtins grammar) d.shapes before text tokens rule after draft → HasBoundVariables draft

@@ -16,7 +16,7 @@ use Rattle.rule_tokens.specs.declared.token.RuleToken.{RuleToken}
 use Rattle.rule_cells.specs.declared.form.Inside.{Inside, Cells as CellsInside, Content as ContentInside}
 use Rattle.rule_cells.specs.Forms.{IsWritten, IsBodyBy, is_word, is_when, begins_condition, condition_word}
 use Rattle.rule_cells.specs.Marks.{kind_mark, marks}
-use Rattle.rule_cells.specs.Written.{Side, side_at, signs_of_side}
+use Rattle.rule_cells.specs.Written.{Side, side_at, signs_of_side, is_of_cells}
 use Rattle.rule_contents.specs.Words.{word_of, meant}
 use Rattle.rule_parts.specs.declared.argument_sorts.Productions.{Productions}
 use Rattle.rule_parts.specs.declared.leaves.Leaf.{Leaf}
@@ -27,7 +27,7 @@ use Rattle.rule_drafts.specs.Cells.{is_open, mark_of, tag_of, body_cells, body_e
 use Rattle.rule_drafts.proofs.ItemLayers.{events-Content}
 use Rattle.rule_reader.specs.Contents.{inside_contents}
 use Rattle.strictness.specs.SoundDrafts.{spots_of}
-use Rattle.draft_laws.proofs.WrittenCells.{TextCell, cell_at, side_cells, start_tag, side_starts}
+use Rattle.draft_laws.proofs.WrittenCells.{TextCell, cell_at, side_cells, start_tag, side_starts, HoldsAsDeclared, side_held}
 use Rattle.draft_laws.proofs.Sides.{front_held, pictures, side_shown, front_shown}
 use Rattle.draft_laws.proofs.Events.{IsTag, tag_there}
 use Rattle.sound_sequences.proofs.Whats.{all_joined}
@@ -120,9 +120,10 @@ module _ (g : Productions) (leaves : List Leaf) (shapes : List CellShape) (readi
   abbrev pub told_in : Inside → List Occurrence
   told_in body = flat_map (event_occurrences g leaves shapes readings) (body_events k body)
 
-  -- A body has these cells, on both sides. Their contents are those of the body and rise; what is told in it is told by them, and none of their tags
+  -- A body has these cells, on both sides, which hold cells or a content as declared, where the cell `k` has a content. Their contents are those of the body and rise; what is told in it is told by them, and none of their tags
   -- is a variable.
   pub record AreCells (body : Inside) (cells : List TextCell) : Type 0 where
+    pub held : is_of_cells shapes k ≡ false → AllByRecursion (HoldsAsDeclared shapes) cells
     pub left : spots_of (sides true body) ≡ pictures g leaves shapes readings vars tokens true cells
     pub right : spots_of (sides false body) ≡ pictures g leaves shapes readings vars tokens false cells
     pub contents : inside_contents Both k body ≡ flat_map content_in cells
@@ -147,6 +148,7 @@ module _ (g : Productions) (leaves : List Leaf) (shapes : List CellShape) (readi
       of_cells =
           let size : length (signs_of_side side) ≡ length (marks (take m tokens)) = ap length written.signs_are in
           record {
+            held = λ plain. side_held shapes (mark_of tokens) Both None 0 side written.allowed;
             left = side_shown g leaves shapes readings vars tokens true Both None 0 side;
             right = side_shown g leaves shapes readings vars tokens false Both None 0 side;
             contents = inside-Cells Both k (side_at 0 side) ∙ side_contents_are (mark_of tokens) Both None 0 side;
@@ -173,6 +175,7 @@ module _ (g : Productions) (leaves : List Leaf) (shapes : List CellShape) (readi
 
     of_content : AreCells (ContentInside 0 past) (lone_cell ∷ [])
     of_content = record {
+      held = λ plain. (plain, tt);
       left = front_shown g leaves shapes readings vars tokens true k 0 past;
       right = front_shown g leaves shapes readings vars tokens false k 0 past;
       contents = inside-Content Both k 0 past;

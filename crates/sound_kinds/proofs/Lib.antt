@@ -1,0 +1,15 @@
+pub mod OwnSorts
+pub mod BaseSorts
+pub mod ValueOrders
+pub mod ValueShapes
+pub mod ValueNames
+pub mod ValueWords
+pub mod ValuePatterns
+pub mod ValueRoles
+pub mod ValueReadings
+pub mod ValueSingles
+pub mod KindBodies
+pub mod ValueContents
+pub mod ValueLiterals
+pub mod KindDrafts
+pub mod KindDefinitions

@@ -1,0 +1,4 @@
+//! Laws of the contents of drafts: each is of the kind of its declared cell.
+#![tactic(auto)]
+
+pub mod laws;
