@@ -1,0 +1,3 @@
+pub mod Strict
+pub mod Literals
+pub mod Written

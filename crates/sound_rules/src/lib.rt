@@ -1,0 +1,4 @@
+//! The laws of the rules of a definition: each is sound.
+#![tactic(auto)]
+
+pub mod laws;
