@@ -1,5 +1,5 @@
 use cell_config::CellRefusal;
-use context_transform::{Assembly, CellsUnclear, DefFault, assemble};
+use context_transform::{CellsUnclear, DefFault, Definition, assemble};
 use k_terms::{Memory, Text};
 use rule_terms::{Body, CellPat, CellShape, Rule};
 use std::alloc::Global;
@@ -64,9 +64,9 @@ fn rule_shown(alloc: Global, cells: &[CellShape], rule: &Rule) -> Result<String,
     Ok(line)
 }
 
-fn last_shown(alloc: Global, assembly: &Assembly) -> Result<String, Memory> {
-    match assembly.rules.as_slice().last() {
-        Some(rule) => rule_shown(alloc, assembly.tree.shapes(), rule),
+fn last_shown(alloc: Global, definition: &Definition) -> Result<String, Memory> {
+    match definition.defs.rules().last() {
+        Some(rule) => rule_shown(alloc, definition.tree.shapes(), rule),
         None => Ok(String::from_str(alloc, "no rule")?),
     }
 }

@@ -6,12 +6,13 @@ use Rattle.file_reader.specs.declared.sentence.Sentence.{Sentence}
 use Rattle.definition_syntax.specs.declared.syntax.Definition.{Definition}
 use Rattle.definition_syntax.specs.Syntaxes.{IsOnlyDefinition}
 use Rattle.rule_terms.specs.declared.rule.Rule.{Rule}
+use Rattle.rule_terms.specs.Language.{Language}
 use Rattle.cell_trees.specs.Trees.{Tree as Declaration, IsTree}
 use Rattle.cell_config.specs.Laws.{HasOneTree, HasOneRefusal, HasNotBoth}
 use Rattle.draft_laws.specs.Laws.{AreWrittenRules, AreWrittenStrict}
 use Rattle.context_transform.specs.declared.fault.DefFault.{DefFault}
 use Rattle.context_transform.specs.declared.fault.DefFault.TheVariants.{Memory}
-use Rattle.context_transform.specs.Assembling.{definition_limit, AreCells, HasCellFault, AreRules, HasRuleFault, IsOnlyAssembly, IsOnlyFault}
+use Rattle.context_transform.specs.Assembling.{definition_limit, AreCells, HasCellFault, AreRules, HasRuleFault, Assembly, language_of, IsOnlyAssembly, IsOnlyFault}
 use Rattle.context_transform.proofs.Telling.{strict_written}
 use Rattle.context_transform.proofs.Endings.{cell_fault_only, rule_fault_only, assembly_only}
 
@@ -41,11 +42,11 @@ module _ (text : List ℕ) (short : length text ≤ definition_limit) (definitio
         (strict_written strict_are d definition.grammar is_tree) fault
         (moved (λ ts ss. HasRuleFault definition.grammar names text ts ss d fault) tokens definition.tokens sentences definition.sentences tokens_are sentences_are bad))
 
-    pub all_end : (rules others : List Rule) (after : List (List ℕ)) → others ≡ rules → AreRules definition.grammar names text tokens sentences d rules after
-        → IsOnlyAssembly text (record { grammar = definition.grammar; tree = d; rules = others; names = after })
-    all_end rules others after same are =
-        assembly_only text short definition defined has_one_tree has_one_refusal has_not_both d names cells_are is_tree
+    pub all_end : (rules : List Rule) (language : Language) (after : List (List ℕ)) → language ≡ language_of definition.grammar d rules → AreRules definition.grammar names text tokens sentences d rules after
+        → IsOnlyAssembly text (record { grammar = definition.grammar; tree = d; language = language; names = after })
+    all_end rules language after is are =
+        subst (λ l. IsOnlyAssembly text (record { grammar = definition.grammar; tree = d; language = l; names = after })) (sym is)
+        (assembly_only text short definition defined has_one_tree has_one_refusal has_not_both d names cells_are is_tree
         (λ before after sentence draft is. drafts_are d (with_builtins definition.grammar) before text definition.tokens sentence after draft is_tree is)
-        (strict_written strict_are d definition.grammar is_tree) others after
-        (subst (λ rs. AreRules definition.grammar names text definition.tokens definition.sentences d rs after) (sym same)
+        (strict_written strict_are d definition.grammar is_tree) rules after
         (moved (λ ts ss. AreRules definition.grammar names text ts ss d rules after) tokens definition.tokens sentences definition.sentences tokens_are sentences_are are))

@@ -17,10 +17,9 @@ use Rattle.cell_config.specs.Laws.{HasOneTree, HasOneRefusal, HasNotBoth}
 use Rattle.rule_completion.specs.Rules.{IsWrittenDraft}
 use Rattle.context_transform.specs.declared.fault.DefFault.{DefFault}
 use Rattle.context_transform.specs.declared.fault.DefFault.TheVariants.{Strict, Cell}
-use Rattle.context_transform.specs.declared.assembling.Assembly.{Assembly}
 use Rattle.context_transform.specs.Told.{told_syntax}
 use Rattle.context_transform.specs.WrittenRules.{rules_in}
-use Rattle.context_transform.specs.Assembling.{definition_limit, AreCells, HasCellFault, strict_in, AreRules, HasRuleFault, IsAssemblyOf, HasRuleFaultOf, HasFaultOf, IsAssembly, IsTooLong, IsDefFault, IsOnlyAssembly, IsOnlyFault}
+use Rattle.context_transform.specs.Assembling.{definition_limit, AreCells, HasCellFault, strict_in, AreRules, HasRuleFault, IsAssemblyOf, HasRuleFaultOf, HasFaultOf, IsAssembly, IsTooLong, IsDefFault, Assembly, language_of, IsOnlyAssembly, IsOnlyFault}
 use Rattle.context_transform.proofs.Rows.{same_all, all_or_fault, same_fault}
 
 not_short_and_long : (n limit : ℕ) → n ≤ limit → limit < n → ⊥
@@ -152,14 +151,16 @@ module _ (text : List ℕ) (short : length text ≤ definition_limit) where
       here fault h =
           over_these (λ e later. HasRuleFault definition.grammar later text definition.tokens definition.sentences e fault) h.tree h.names h.cells h.fault_is
 
-      same_assembly : (one other : Assembly) → one.tree ≡ d → IsAssemblyOf text definition one → RulesAre one.rules one.names → IsAssemblyOf text definition other → other ≡ one
+      same_assembly : (one other : Assembly) → one.tree ≡ d → IsAssemblyOf text definition one → RulesAre one.language.rules one.names → IsAssemblyOf text definition other → other ≡ one
       same_assembly one other tree a rules b =
           let trees : other.tree ≡ one.tree = (one_cells other.tree d b.names names b.cells cells).1 ∙ sym tree in
-          let theirs : RulesAre other.rules other.names =
-          over_these (λ e later. AreRules definition.grammar later text definition.tokens definition.sentences e other.rules other.names) other.tree b.names b.cells b.rules in
-          let same = one_rules other.rules one.rules other.names one.names theirs rules in
+          let theirs : RulesAre other.language.rules other.names =
+          over_these (λ e later. AreRules definition.grammar later text definition.tokens definition.sentences e other.language.rules other.names) other.tree b.names b.cells b.rules in
+          let same = one_rules other.language.rules one.language.rules other.names one.names theirs rules in
           let grammars : other.grammar ≡ one.grammar = b.grammar ∙ sym a.grammar in
-          λ i. record { grammar = grammars i; tree = trees i; rules = same.0 i; names = same.1 i }
+          let languages : other.language ≡ one.language =
+          b.language ∙ (λ i. language_of (grammars i) (trees i) (same.0 i)) ∙ sym a.language in
+          λ i. record { grammar = grammars i; tree = trees i; language = languages i; names = same.1 i }
 
       pub rule_fault_only : (fault : DefFault) → RuleFault fault → IsOnlyFault text fault
       rule_fault_only fault bad = record {
@@ -174,10 +175,10 @@ module _ (text : List ℕ) (short : length text ≤ definition_limit) where
 
           none_of : (assembly : Assembly) → IsAssemblyOf text definition assembly → ⊥
           none_of assembly h =
-              rules_or_fault assembly.rules assembly.names fault
-              (over_these (λ e later. AreRules definition.grammar later text definition.tokens definition.sentences e assembly.rules assembly.names) assembly.tree h.names h.cells h.rules) bad
+              rules_or_fault assembly.language.rules assembly.names fault
+              (over_these (λ e later. AreRules definition.grammar later text definition.tokens definition.sentences e assembly.language.rules assembly.names) assembly.tree h.names h.cells h.rules) bad
 
-      pub assembly_only : (rules : List Rule) (after : List (List ℕ)) → RulesAre rules after → IsOnlyAssembly text (record { grammar = definition.grammar; tree = d; rules = rules; names = after })
+      pub assembly_only : (rules : List Rule) (after : List (List ℕ)) → RulesAre rules after → IsOnlyAssembly text (record { grammar = definition.grammar; tree = d; language = language_of definition.grammar d rules; names = after })
       assembly_only rules after are = record {
         is = record { short = short; definition = definition; is_definition = defined.is; is = this };
         only = λ other h. same_assembly assembly other refl this are (assembled other h);
@@ -185,10 +186,10 @@ module _ (text : List ℕ) (short : length text ≤ definition_limit) where
       }
         where
           assembly : Assembly
-          assembly = record { grammar = definition.grammar; tree = d; rules = rules; names = after }
+          assembly = record { grammar = definition.grammar; tree = d; language = language_of definition.grammar d rules; names = after }
 
           this : IsAssemblyOf text definition assembly
-          this = record { grammar = refl; names = names; cells = cells; rules = are }
+          this = record { grammar = refl; names = names; cells = cells; rules = are; language = refl }
 
           none_of : (fault : DefFault) → HasFaultOf text definition fault → ⊥
           none_of fault (inl h) = cells_or_fault d names fault cells h

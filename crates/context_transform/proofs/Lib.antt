@@ -5,3 +5,4 @@ pub mod Telling
 pub mod Proper
 pub mod CellFaults
 pub mod Closings
+mod SoundLanguage

@@ -1,7 +1,8 @@
 -- What a text defines, whole, and why it defines nothing.
-use Rattle.std.specs.Prelude.{◌≡◌, ◌⊎◌, ℕ, ◌+◌, ◌<◌, ◌≤◌, List, length}
+use Rattle.std.specs.Prelude.{◌≡◌, ◌⊎◌, ℕ, ◌+◌, ◌<◌, ◌≤◌, List, length, map}
+use Rattle.std.specs.Arc.{arc_value}
 use Rattle.k_lexer.specs.declared.token.Token.{Token}
-use Rattle.grammar_terms.specs.Grammar.{Syntax}
+use Rattle.grammar_terms.specs.Grammar.{Syntax, order_of, label_of}
 use Rattle.grammar_terms.specs.Builtins.{with_builtins}
 use Rattle.file_reader.specs.declared.sentence.Sentence.{Sentence}
 use Rattle.sorted_grammar.specs.declared.fault.What.TheVariants.{Rules}
@@ -10,6 +11,7 @@ use Rattle.definition_syntax.specs.declared.fault.SyntaxFault.{SyntaxFault}
 use Rattle.definition_syntax.specs.Syntaxes.{IsDefinition, IsSyntaxFault}
 use Rattle.rule_terms.specs.declared.rule.Draft.{Draft}
 use Rattle.rule_terms.specs.declared.rule.Rule.{Rule}
+use Rattle.rule_terms.specs.Language.{Language}
 use Rattle.strictness.specs.declared.fault.StrictFault.{StrictFault}
 use Rattle.strictness.specs.Places.{declared_in, HaveNoBadPlace}
 use Rattle.strictness.specs.Drafts.{strict_drafts}
@@ -19,7 +21,7 @@ use Rattle.cell_config.specs.declared.refusal.CellRefusal.{CellRefusal}
 use Rattle.cell_config.specs.Cells.{IsCells, IsCellRefusal}
 use Rattle.context_transform.specs.declared.fault.DefFault.{DefFault}
 use Rattle.context_transform.specs.declared.fault.DefFault.TheVariants.{TooBig, Strict, Cell, TooMany}
-use Rattle.context_transform.specs.declared.assembling.Assembly.{Assembly}
+use Rattle.context_transform.specs.declared.assembling.Definition.{Definition as Defined}
 use Rattle.context_transform.specs.Told.{told_syntax}
 use Rattle.context_transform.specs.WrittenRules.{rules_in, AreAllRules, IsFirstFault}
 
@@ -87,12 +89,28 @@ module _ (g : Syntax) (before : List (List ℕ)) (text : List ℕ) (tokens : Lis
 
 -- ---- the definition
 
+-- What a text defines: its sorts and productions, its declared cells, the language that is run, and the words of the text by
+-- their numbers.
+pub record Assembly : Type 0 where
+  pub grammar : Syntax
+  pub tree : Declaration
+  pub language : Language
+  pub names : List (List ℕ)
+
+abbrev pub assembly_of : Defined → Assembly
+assembly_of it = record { grammar = it.grammar; tree = it.tree; language = arc_value it.defs; names = it.names }
+
+-- the language of a grammar, of declared cells and of rules
+abbrev pub language_of : Syntax → Declaration → List Rule → Language
+language_of g d rules = record { sorts = order_of g; cells = d.shapes; rules = rules; labels = map (label_of g.names) g.prods }
+
 -- what the parts of a text define
 pub record IsAssemblyOf (text : List ℕ) (definition : Definition) (assembly : Assembly) : Type 0 where
   pub grammar : assembly.grammar ≡ definition.grammar
   pub names : List (List ℕ)
   pub cells : AreCells definition.grammar definition.names text definition.tokens definition.sentences assembly.tree names
-  pub rules : AreRules definition.grammar names text definition.tokens definition.sentences assembly.tree assembly.rules assembly.names
+  pub rules : AreRules definition.grammar names text definition.tokens definition.sentences assembly.tree assembly.language.rules assembly.names
+  pub language : assembly.language ≡ language_of assembly.grammar assembly.tree assembly.language.rules
 
 -- their cells are declared, and a rule is none
 pub record HasRuleFaultOf (text : List ℕ) (definition : Definition) (fault : DefFault) : Type 0 where

@@ -5,23 +5,26 @@ ghost use Rattle.strictness.specs.Places.{declared_in, HaveNoBadPlace};
 ghost use Rattle.strictness.specs.Drafts.{strict_drafts};
 ghost use Rattle.definition_syntax.specs.Syntaxes.{IsOnlyDefinition};
 ghost use Rattle.context_transform.specs.declared.fault.DefFault.TheVariants.{Memory as WantOfMemory};
-ghost use Rattle.context_transform.specs.Assembling.{AreCells, HasCellFault, AreRules, HasRuleFault, IsOnlyAssembly, IsOnlyFault};
+ghost use Rattle.context_transform.specs.Assembling.{AreCells, HasCellFault, AreRules, HasRuleFault, assembly_of, IsOnlyAssembly, IsOnlyFault};
 
+use crate::defining::defs_of;
 use crate::fault::DefFault;
 use crate::rules::all_rules;
 use crate::sentences::rules_of;
 use crate::told::{cell_fault, strict_fault, syntax_fault};
-use cell_config::laws::{not_both, one_refusal, one_tree};
+use cell_config::laws::{declared_soundly, not_both, one_refusal, one_tree};
 use cell_config::read_cells;
 use cell_trees::CellTree;
-use definition_syntax::{Definition, read_definition};
+use definition_syntax::{Definition as Declared, read_definition};
 use draft_laws::laws::{written_rules, written_strict};
 use k_lexer::Token;
 use k_terms::{Many, Names};
 use module_reader::Sentence;
-use rule_terms::{Draft, Rule};
+use rule_terms::{Defs, Draft, Rule};
 use sorted_grammar::{Grammar, What};
+use sound_rules::laws::{cells_declare_literals, strict_rules_sound, written_rules_sound};
 use std::alloc::Global;
+use std::sync::Arc;
 use strictness::heat_cool;
 
 /// The greatest length of a definition, in bytes.
@@ -32,13 +35,14 @@ const RULE_LIMIT: usize = 1_024;
 
 /// A definition, whole.
 #[derive(Debug, Drop)]
-pub struct Assembly {
+pub struct Definition {
     /// Its sorts and productions.
     pub grammar: Grammar,
     /// Its declared cells.
     pub tree: CellTree,
-    /// Its rules, from rule 1 on: those that are written, in the order of its sentences, and behind them those of strictness.
-    pub rules: Many<Rule>,
+    /// The language that is run. Its rules are, from rule 1 on, those that are written, in the order of its sentences, and behind
+    /// them those of strictness.
+    pub defs: Arc<Defs>,
     /// The words of its text by their numbers.
     pub names: Names,
 }
@@ -116,13 +120,13 @@ fn rules_of_cells(
 }
 
 /// What the parts of a text define.
-fn assembled(alloc: Global, text: &[u8], definition: Definition) -> Result<Assembly, DefFault>
+fn assembled(alloc: Global, text: &[u8], definition: Declared) -> Result<Definition, DefFault>
     requires definition { IsOnlyDefinition text.now definition }
     requires short { length text.now ≤ 1048576 }
-    ensures ok { IfOk result (IsOnlyAssembly text.now) }
+    ensures ok { IfOk result (λ whole. IsOnlyAssembly text.now (assembly_of whole)) }
     ensures fault { IfErr result (λ fault. (fault ≡ WantOfMemory) ⊎ IsOnlyFault text.now fault) }
 {
-    let Definition {
+    let Declared {
         tokens,
         sentences,
         grammar,
@@ -140,14 +144,21 @@ fn assembled(alloc: Global, text: &[u8], definition: Definition) -> Result<Assem
     written_rules();
     written_strict();
     let rules = match rules_of_cells(alloc, &grammar, &cells, &mut names, text, tokens, sentences) {
-        Ok(rules) => Many::from_vec(rules),
+        Ok(rules) => rules,
         Err(fault) => return Err(fault),
     };
+    declared_soundly();
+    cells_declare_literals();
+    written_rules_sound();
+    strict_rules_sound();
     let Cells { tree, strict: _ } = cells;
-    Ok(Assembly {
+    let Ok(defs) = defs_of(alloc, &grammar, &tree, rules) else {
+        return Err(DefFault::Memory);
+    };
+    Ok(Definition {
         grammar,
         tree,
-        rules,
+        defs,
         names,
     })
 }
@@ -155,8 +166,8 @@ fn assembled(alloc: Global, text: &[u8], definition: Definition) -> Result<Assem
 /// What a text defines; or its fault, of several the first in this order: it is too long; that of its tokens, of its modules, of its
 /// sorts and productions; of its strict productions; of its configurations; that there are too many rules; and rule by rule, written
 /// ones before those of strictness, that the rule is none or that its cells are not told.
-pub fn assemble(alloc: Global, text: &[u8]) -> Result<Assembly, DefFault>
-    ensures ok { IfOk result (IsOnlyAssembly text.now) }
+pub fn assemble(alloc: Global, text: &[u8]) -> Result<Definition, DefFault>
+    ensures ok { IfOk result (λ whole. IsOnlyAssembly text.now (assembly_of whole)) }
     ensures fault { IfErr result (λ fault. (fault ≡ WantOfMemory) ⊎ IsOnlyFault text.now fault) }
 {
     if text.len() > DEFINITION_LIMIT {

@@ -3,13 +3,14 @@
 
 mod assembling;
 mod completion;
+mod defining;
 mod fault;
 mod laws;
 mod rules;
 mod sentences;
 mod told;
 
-pub use assembling::{Assembly, assemble};
+pub use assembling::{Definition, assemble};
 pub use completion::complete;
 pub use fault::{CellsUnclear, DefFault};
 pub use laws::{one_reason, one_rule, rule_or_reason};

@@ -3,8 +3,8 @@ use Rattle.std.proofs.Common.{◌≡◌, ◌⊎◌, inl, inr, ℕ, ◌<◌, ◌�
 use Rattle.std.proofs.lemmas.Bool.{cases_lt}
 use Rattle.context_transform.specs.declared.fault.DefFault.{DefFault}
 use Rattle.context_transform.specs.declared.fault.DefFault.TheVariants.{TooBig, Lex, Module, Sort, Strict, Cell, TooMany, Rule, Complete, Memory}
-use Rattle.context_transform.specs.declared.assembling.Assembly.{Assembly}
-use Rattle.context_transform.specs.Assembling.{IsDefFault, IsOnlyAssembly, IsOnlyFault}
+use Rattle.context_transform.specs.declared.assembling.Definition.{Definition as Whole}
+use Rattle.context_transform.specs.Assembling.{assembly_of, IsDefFault, IsOnlyAssembly, IsOnlyFault}
 use Rattle.context_transform.specs.Told.{wants_memory}
 use Rattle.context_transform.proofs.Proper.{fault_proper}
 use Rattle.program_reader.specs.declared.refusal.ReadRefusal.{ReadRefusal}
@@ -111,14 +111,14 @@ undefined_of file bytes rose Usage whole none = elim none [ ]
 undefined_of file bytes rose Unbuilt whole none = elim none [ ]
 undefined_of file bytes rose (Program refusal) whole none = elim none [ ]
 
-pub undefined_file : (file : Option (List ℕ)) (bytes : List ℕ) (rose : Type 0) (result : Result Assembly Outcome) → IfSome file (λ told. bytes ≡ told)
+pub undefined_file : (file : Option (List ℕ)) (bytes : List ℕ) (rose : Type 0) (result : Result Whole Outcome) → IfSome file (λ told. bytes ≡ told)
     → IfErr result (IsUndefined (Some bytes) ⊥) → IfErr result (IsUndefined file rose)
 undefined_file file bytes rose (Ok assembly) whole none = tt
 undefined_file file bytes rose (Err o) whole none = undefined_of file bytes rose o whole none
 
-pub file_defines : (file : Option (List ℕ)) (bytes : List ℕ) (result : Result Assembly Outcome) → IfSome file (λ told. bytes ≡ told)
-    → IfOk result (IsOnlyAssembly bytes) → IfOk result (FileDefines file)
-file_defines file bytes (Ok assembly) whole only = of_file file bytes (λ told. IsOnlyAssembly told assembly) whole only
+pub file_defines : (file : Option (List ℕ)) (bytes : List ℕ) (result : Result Whole Outcome) → IfSome file (λ told. bytes ≡ told)
+    → IfOk result (λ whole. IsOnlyAssembly bytes (assembly_of whole)) → IfOk result (λ whole. FileDefines file (assembly_of whole))
+file_defines file bytes (Ok definition) whole only = of_file file bytes (λ told. IsOnlyAssembly told (assembly_of definition)) whole only
 file_defines file bytes (Err o) whole only = tt
 
 -- ---- runs

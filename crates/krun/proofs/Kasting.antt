@@ -12,8 +12,7 @@ use Rattle.program_answer.specs.declared.answer.Answer.{Answer}
 use Rattle.program_answer.specs.declared.answer.Answer.TheVariants.{Shown as TermShown, Refused}
 use Rattle.program_answer.specs.Answers.{IsTold}
 use Rattle.context_transform.specs.declared.fault.DefFault.{DefFault}
-use Rattle.context_transform.specs.declared.assembling.Assembly.{Assembly}
-use Rattle.context_transform.specs.Assembling.{IsAssembly, IsDefFault}
+use Rattle.context_transform.specs.Assembling.{Assembly, IsAssembly, IsDefFault}
 use Rattle.context_transform.specs.Told.{wants_memory}
 use Rattle.krun.specs.declared.outcome.Outcome.{Outcome}
 use Rattle.krun.specs.declared.outcome.Outcome.TheVariants.{Final, Budget, Shown, Usage, Definition, Unbuilt, Program, ReadFault, Memory as NoMemoryLeft}

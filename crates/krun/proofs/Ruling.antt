@@ -1,7 +1,7 @@
 -- What `rules` answers follows from what its phases say.
 use Rattle.std.proofs.Common.{◌≡◌, ◌⊎◌, inl, inr, ℕ, false, List, Option, Some, None, IfSome, refl, sym, ap, ◌∙◌, subst}
 use Rattle.context_transform.specs.declared.fault.DefFault.{DefFault}
-use Rattle.context_transform.specs.declared.assembling.Assembly.{Assembly}
+use Rattle.context_transform.specs.Assembling.{Assembly}
 use Rattle.context_transform.specs.Told.{wants_memory}
 use Rattle.rule_terms.specs.declared.defs.CellShape.{CellShape}
 use Rattle.rule_terms.specs.declared.rule.Rule.{Rule}
@@ -14,7 +14,7 @@ use Rattle.krun.specs.Assembled.{FileDefines, IsUndefined}
 use Rattle.krun.specs.Rules.{ListsOnly, MustList, lines_of}
 
 -- what a file defines has its lines
-pub lists_of_file : (file : Option (List ℕ)) (assembly : Assembly) (lines : List ℕ) (cells : List CellShape) (rules : List Rule) → cells ≡ assembly.tree.shapes → rules ≡ assembly.rules
+pub lists_of_file : (file : Option (List ℕ)) (assembly : Assembly) (lines : List ℕ) (cells : List CellShape) (rules : List Rule) → cells ≡ assembly.tree.shapes → rules ≡ assembly.language.rules
     → lines ≡ lines_from assembly.grammar cells 1 rules → FileDefines file assembly → IfSome file (λ bytes. ListsOnly bytes lines)
 lists_of_file file assembly lines cells rules same also are defines = of_file file defines
   where

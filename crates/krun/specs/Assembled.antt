@@ -1,7 +1,6 @@
 -- The definition that a file holds, whole, or why there is none.
 use Rattle.std.specs.Prelude.{◌≡◌, false, List, ℕ, Option, IfSome}
-use Rattle.context_transform.specs.declared.assembling.Assembly.{Assembly}
-use Rattle.context_transform.specs.Assembling.{IsOnlyAssembly, IsOnlyFault}
+use Rattle.context_transform.specs.Assembling.{Assembly, IsOnlyAssembly, IsOnlyFault}
 use Rattle.context_transform.specs.Told.{wants_memory}
 use Rattle.krun.specs.declared.outcome.Outcome.{Outcome}
 use Rattle.krun.specs.declared.outcome.Outcome.TheVariants.{Definition, ReadFault, Memory as NoMemoryLeft}

@@ -5,8 +5,7 @@ use Rattle.program_reader.specs.Programs.{IsProgram, IsRefused as IsProgramRefus
 use Rattle.program_answer.specs.declared.answer.Answer.{Answer}
 use Rattle.program_answer.specs.declared.answer.Answer.TheVariants.{Shown as TermShown, Refused}
 use Rattle.program_answer.specs.Answers.{IsTold}
-use Rattle.context_transform.specs.declared.assembling.Assembly.{Assembly}
-use Rattle.context_transform.specs.Assembling.{IsAssembly}
+use Rattle.context_transform.specs.Assembling.{Assembly, IsAssembly}
 use Rattle.krun.specs.declared.outcome.Outcome.{Outcome}
 use Rattle.krun.specs.declared.outcome.Outcome.TheVariants.{Shown, Program, ReadFault}
 use Rattle.krun.specs.declared.outcome.Which.TheVariants.{Program as TheProgram}

@@ -2,7 +2,7 @@
 ghost use Rattle.std.specs.Prelude.{◌≡◌, ◌≢◌, ◌≤◌, List, ℕ, Some, length, true, false, IfSome, IfOk, IfErr};
 ghost use Rattle.k_edge.specs.Faults.{Rose};
 ghost use Rattle.context_transform.specs.declared.fault.DefFault.{DefFault as Fault};
-ghost use Rattle.context_transform.specs.Assembling.{IsOnlyAssembly, IsOnlyFault};
+ghost use Rattle.context_transform.specs.Assembling.{assembly_of as assembly, IsOnlyAssembly, IsOnlyFault};
 ghost use Rattle.context_transform.specs.Told.{wants_memory};
 ghost use Rattle.program_reader.specs.declared.refusal.ReadRefusal.{ReadRefusal};
 ghost use Rattle.krun.specs.declared.outcome.Outcome.TheVariants.{Usage as WantOfWords, Definition as DefinitionRefused, Unbuilt as NotOfSmallForm, Program as ProgramRefused, ReadFault as FaultOf};
@@ -12,7 +12,7 @@ ghost use Rattle.krun.specs.Assembled.{FileDefines, IsUndefined};
 
 use crate::file::file_bytes;
 use crate::outcome::{Outcome, Which};
-use context_transform::{Assembly, DefFault, assemble};
+use context_transform::{DefFault, Definition, assemble};
 use k_edge::Shelf;
 use std::alloc::Global;
 
@@ -50,21 +50,25 @@ pub(crate) fn definition_bytes<H: Shelf>(
 }
 
 /// What bytes define.
-pub(crate) fn assembly_of(alloc: Global, bytes: &[u8]) -> Result<Assembly, Outcome>
-    ensures ok { IfOk result (IsOnlyAssembly bytes.now) }
+pub(crate) fn assembly_of(alloc: Global, bytes: &[u8]) -> Result<Definition, Outcome>
+    ensures ok { IfOk result (λ whole. IsOnlyAssembly bytes.now (assembly whole)) }
     ensures stop { IfErr result (IsUndefined (Some bytes.now) ⊥) }
 {
     match assemble(alloc, bytes) {
-        Ok(assembly) => Ok(assembly),
+        Ok(definition) => Ok(definition),
         Err(fault) => Err(Outcome::from(fault)),
     }
 }
 
 /// What a file defines.
-pub fn assembly_at<H: Shelf>(alloc: Global, shelf: &mut H, name: &str) -> Result<Assembly, Outcome>
+pub fn assembly_at<H: Shelf>(
+    alloc: Global,
+    shelf: &mut H,
+    name: &str,
+) -> Result<Definition, Outcome>
     ensures kept { (other : List ℕ) → H.told shelf.new other ≡ H.told shelf.old other }
     ensures later { (other : List ℕ) → H.faults shelf.old other ≤ H.faults shelf.new other }
-    ensures ok { IfOk result (FileDefines (H.told shelf.old name.now)) }
+    ensures ok { IfOk result (λ whole. FileDefines (H.told shelf.old name.now) (assembly whole)) }
     ensures stop { IfErr result (IsUndefined (H.told shelf.old name.now) (Rose (H.faults shelf.old name.now) (H.faults shelf.new name.now))) }
 {
     let bytes = match definition_bytes(alloc, shelf, name) {

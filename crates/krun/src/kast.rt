@@ -14,7 +14,7 @@ use crate::job::Job;
 use crate::outcome::{Outcome, Which};
 use crate::report::Report;
 use crate::top::{refused, report_refusal, status_after};
-use context_transform::Assembly;
+use context_transform::Definition;
 use k_edge::{Shelf, Sink};
 use program_answer::{Answer, Told, answer_text};
 use std::alloc::Global;
@@ -52,20 +52,20 @@ fn kast_told<H: Shelf>(alloc: Global, shelf: &mut H, job: &Job<'_>) -> Result<To
         (Rose (H.faults shelf.old job.now.definition.now) (H.faults shelf.new job.now.definition.now))
         (Rose (H.faults shelf.old job.now.program.now) (H.faults shelf.new job.now.program.now))) }
 {
-    let assembly = match assembly_at(alloc, shelf, job.definition) {
-        Ok(assembly) => assembly,
+    let definition = match assembly_at(alloc, shelf, job.definition) {
+        Ok(definition) => definition,
         Err(stop) => return Err(stop),
     };
     let bytes = match program_bytes(alloc, shelf, job.program) {
         Ok(bytes) => bytes,
         Err(stop) => return Err(stop),
     };
-    let Assembly {
+    let Definition {
         grammar,
         tree,
         names,
         ..
-    } = assembly;
+    } = definition;
     let Ok(told) = answer_text(alloc, &grammar, names, tree.pgm_sort(), bytes.as_slice()) else {
         return Err(Outcome::Memory);
     };

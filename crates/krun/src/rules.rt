@@ -21,12 +21,12 @@ fn lines_at<H: Shelf>(alloc: Global, shelf: &mut H, name: &str) -> Result<Vec<u8
     ensures ok { IfOk result (λ lines. IfSome (H.told shelf.old name.now) (λ bytes. ListsOnly bytes lines.items)) }
     ensures stop { IfErr result (IsUndefined (H.told shelf.old name.now) (Rose (H.faults shelf.old name.now) (H.faults shelf.new name.now))) }
 {
-    let assembly = match assembly_at(alloc, shelf, name) {
-        Ok(assembly) => assembly,
+    let definition = match assembly_at(alloc, shelf, name) {
+        Ok(definition) => definition,
         Err(stop) => return Err(stop),
     };
-    let cells = assembly.tree.shapes();
-    let Ok(lines) = rule_lines(alloc, &assembly.grammar, cells, assembly.rules.as_slice()) else {
+    let (cells, rules) = (definition.tree.shapes(), definition.defs.rules());
+    let Ok(lines) = rule_lines(alloc, &definition.grammar, cells, rules) else {
         return Err(Outcome::Memory);
     };
     Ok(lines)

@@ -40,17 +40,17 @@ cells_to (c ∷ cs) (suc i) cell within is = ap (λ ns. map cell_in (spots c) ++
 pub cells_next : (cells : List CellPat) (i : ℕ) (cell : CellPat) → i < length cells → cell ≡ get_or cells i cell → cells_of (take (i + 1) cells) ≡ cells_of (take i cells) ++ map cell_in (spots cell)
 cells_next cells i cell within is = ap (λ n. cells_of (take n cells)) (one_more i) ∙ cells_to cells i cell within is
 
-lines_to : (g : Syntax) (cells : List CellShape) (rules : List Rule) (i n : ℕ) (rule : Rule) → i < length rules → rule ≡ get_or rules i rule
-    → lines_from g cells n (drop i rules) ≡ rule_line g cells n rule ++ lines_from g cells (n + 1) (drop (suc i) rules)
-lines_to g cells [] i n rule within is = absurd (omega arith)
-lines_to g cells (d ∷ ds) zero n draft within is = ap (λ (e : Rule). rule_line g cells n e ++ lines_from g cells (n + 1) ds) (sym is)
-lines_to g cells (d ∷ ds) (suc i) n draft within is = lines_to g cells ds i n draft (omega arith) is
+lines_to : {A : Type 0} (rule_of : A → Rule) (g : Syntax) (cells : List CellShape) (items : List A) (i n : ℕ) (item : A) → i < length items → item ≡ get_or items i item
+    → lines_from g cells n (drop i (map rule_of items)) ≡ rule_line g cells n (rule_of item) ++ lines_from g cells (n + 1) (drop (suc i) (map rule_of items))
+lines_to rule_of g cells [] i n item within is = absurd (omega arith)
+lines_to rule_of g cells (d ∷ ds) zero n item within is = ap (λ e. rule_line g cells n (rule_of e) ++ lines_from g cells (n + 1) (map rule_of ds)) (sym is)
+lines_to rule_of g cells (d ∷ ds) (suc i) n item within is = lines_to rule_of g cells ds i n item (omega arith) is
 
 -- the lines from a rule on
-pub lines_next : (g : Syntax) (cells : List CellShape) (rules : List Rule) (i n : ℕ) (rule : Rule) → i < length rules → rule ≡ get_or rules i rule
-    → lines_from g cells n (drop i rules) ≡ rule_line g cells n rule ++ lines_from g cells (n + 1) (drop (i + 1) rules)
-lines_next g cells rules i n rule within is =
-    lines_to g cells rules i n rule within is ∙ ap (λ k. rule_line g cells n rule ++ lines_from g cells (n + 1) (drop k rules)) (sym (one_more i))
+pub lines_next : {A : Type 0} (rule_of : A → Rule) (g : Syntax) (cells : List CellShape) (items : List A) (i n : ℕ) (item : A) → i < length items → item ≡ get_or items i item
+    → lines_from g cells n (drop i (map rule_of items)) ≡ rule_line g cells n (rule_of item) ++ lines_from g cells (n + 1) (drop (i + 1) (map rule_of items))
+lines_next rule_of g cells items i n item within is =
+    lines_to rule_of g cells items i n item within is ∙ ap (λ k. rule_line g cells n (rule_of item) ++ lines_from g cells (n + 1) (drop k (map rule_of items))) (sym (one_more i))
 
 -- the same of lists that grow
 pub cells_kept : (cells : List CellPat) (i : ℕ) (cell : CellPat) (old before now : List ℕ) → i < length cells → cell ≡ get_or cells i cell
@@ -58,3 +58,13 @@ pub cells_kept : (cells : List CellPat) (i : ℕ) (cell : CellPat) (old before n
 cells_kept cells i cell old before now within is had has =
     has ∙ ap (λ ns. ns ++ map cell_in (spots cell)) had ∙ append_assoc old (cells_of (take i cells)) (map cell_in (spots cell))
     ∙ ap (λ ns. old ++ ns) (sym (cells_next cells i cell within is))
+
+-- lines up to one more
+pub lines_kept : {A : Type 0} (rule_of : A → Rule) (g : Syntax) (cells : List CellShape) (items : List A) (i n : ℕ) (item : A) (rule : Rule) (before now whole : List ℕ)
+    → i < length items → item ≡ get_or items i item → rule ≡ rule_of item
+    → before ++ lines_from g cells n (drop i (map rule_of items)) ≡ whole → now ≡ before ++ rule_line g cells n rule
+    → now ++ lines_from g cells (n + 1) (drop (i + 1) (map rule_of items)) ≡ whole
+lines_kept rule_of g cells items i n item rule before now whole within is same had has =
+    ap (λ ns. ns ++ lines_from g cells (n + 1) (drop (i + 1) (map rule_of items))) (has ∙ ap (λ r. before ++ rule_line g cells n r) same)
+    ∙ append_assoc before (rule_line g cells n (rule_of item)) (lines_from g cells (n + 1) (drop (i + 1) (map rule_of items)))
+    ∙ ap (λ ns. before ++ ns) (sym (lines_next rule_of g cells items i n item within is)) ∙ had

@@ -1,6 +1,7 @@
 //! The lines of rules.
 ghost use Rattle.std.specs.Prelude.{◌≡◌, ◌++◌, ◌+◌, IfOk, map, ℕ, codes};
 ghost use Rattle.std.specs.List.{flat_map};
+ghost use Rattle.std.specs.Arc.{arc_value};
 ghost use Rattle.std.specs.Fmt.{decimal};
 ghost use Rattle.rule_terms.specs.Spots.{Spot, spots, spots_in};
 ghost use Rattle.printed_form.specs.Pieces.{joined_by};
@@ -10,6 +11,7 @@ use grammar_terms::Grammar;
 use k_terms::Memory;
 use rule_terms::{Body, CellPat, CellShape, Origin, Rule};
 use std::alloc::Global;
+use std::sync::Arc;
 
 /// Adds the declared cells of what stands in a body.
 #[cycle(cells)]
@@ -150,9 +152,9 @@ pub fn rule_lines(
     alloc: Global,
     grammar: &Grammar,
     cells: &[CellShape],
-    rules: &[Rule],
+    rules: &[Arc<Rule>],
 ) -> Result<Vec<u8>, Memory>
-    ensures { IfOk result (λ lines. lines.items ≡ lines_from grammar.now cells.now 1 rules.now) }
+    ensures { IfOk result (λ lines. lines.items ≡ lines_from grammar.now cells.now 1 (map arc_value rules.now)) }
 {
     let mut lines = Vec::new(alloc);
     let mut number: usize = 0;

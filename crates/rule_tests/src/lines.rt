@@ -4,6 +4,7 @@ use rule_listing::rule_lines;
 use rule_terms::{Body, CellPat, CellShape, Kind, Origin, Rule};
 use std::alloc::Global;
 use std::str;
+use std::sync::Arc;
 use std::test::Fail;
 
 fn shape(alloc: Global, name: &str, parent: Option<u32>, kind: Kind) -> Result<CellShape, Memory> {
@@ -35,14 +36,15 @@ fn side(alloc: Global) -> Result<CellPat, Memory> {
     })
 }
 
-fn rule(alloc: Global, origin: Origin) -> Result<Rule, Memory> {
-    Ok(Rule {
+fn rule(alloc: Global, origin: Origin) -> Result<Arc<Rule>, Memory> {
+    let rule = Rule {
         origin,
         vars: Many::new(alloc),
         left: side(alloc)?,
         right: side(alloc)?,
         when: Many::new(alloc),
-    })
+    };
+    Ok(Arc::new(alloc, rule)?)
 }
 
 #[test]
