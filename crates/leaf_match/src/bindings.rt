@@ -42,7 +42,8 @@ impl<'a> Bindings<'a> {
     }
 
     /// Matches one more body against a content, with the keys of the body's entries in their order: the variables that stand in
-    /// it are bound. `false` where no substitution that agrees with what is bound makes the body the content.
+    /// it are bound. `false` where no substitution that agrees with what is bound makes the body the content. The values of the
+    /// content are at most 400 deep, and the keys of its maps rise.
     pub fn match_body(
         &mut self,
         alloc: Global,

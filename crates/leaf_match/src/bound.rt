@@ -6,7 +6,8 @@ use k_terms::{Memory, Numbers, Pairs, Value, Values, copy, copy_values, equal};
 use std::alloc::Global;
 
 /// What a variable stands for, lent out of a configuration: a value; a part of the items of a list of the production with a
-/// number, of a sequence, or of a list; or a map without the entries at some places, which are counted from 0 and rise.
+/// number, of a sequence, or of a list; or a map without the entries at some places, which are counted from 0 and stand in the
+/// order of the keys that were given.
 #[derive(Debug, Drop)]
 pub enum Bound<'a> {
     Whole(&'a Value),
