@@ -1,5 +1,5 @@
 -- Entries matched one by one.
-use Rattle.std.proofs.Common.{arith, ◌≡◌, ℕ, zero, suc, ◌+◌, ◌<◌, ◌≤◌, List, [], ◌∷◌, take, length, get_or, map, refl, sym, ap, subst, ◌∙◌}
+use Rattle.std.proofs.Common.{arith, ◌≡◌, ℕ, zero, suc, ◌+◌, ◌<◌, List, [], ◌∷◌, take, length, get_or, map, refl, sym, ap, subst, ◌∙◌}
 use Rattle.std.specs.Prelude.{Option, Some, slice_get}
 use Rattle.std.specs.Option.{option_map, option_and_then}
 use Rattle.std.proofs.lemmas.Option.{get_or_from_slice_get}
@@ -10,10 +10,7 @@ use Rattle.rule_terms.specs.Substitution.{Subst}
 use Rattle.rule_terms.specs.Eval.{eval, eval_entry, eval_entries}
 use Rattle.rule_terms.proofs.Defined.{and_then_gives, map_gives, same_some}
 use Rattle.leaf_match.proofs.Entering.{Entries}
-use Rattle.k_terms.specs.Value.{depth_of}
-use Rattle.k_terms.specs.Operators.{depth_limit}
-use Rattle.leaf_match.specs.Maps.{HavePlaces, AreShallow}
-use Rattle.leaf_match.proofs.Rows.{each_at}
+use Rattle.leaf_match.specs.Maps.{HavePlaces}
 use Rattle.leaf_match.proofs.MapBodies.{PickedAt, entry_parts, entry_made}
 
 module _ {A B : Type 0} (f : A → Option B) where
@@ -112,6 +109,3 @@ module _ (c : Entries) (patterns : List (Pattern × Pattern)) (ps : List ℕ) wh
 
   pub in_entries : (i d : ℕ) → HavePlaces c patterns ps → i < length patterns → get_or ps i d < length c
   in_entries i d have within = let here = picked_at c ps have.0 i d have.1 (in_places i have within) in place_within c (get_or ps i d) here.0 here.2
-
-pub shallow_at : (c : Entries) (p : ℕ) (e : Value × Value) → AreShallow c → p < length c → e ≡ get_or c p e → (depth_of e.0 ≤ depth_limit) × (depth_of e.1 ≤ depth_limit)
-shallow_at c p e all within is = each_at (λ (f : Value × Value). (depth_of f.0 ≤ depth_limit) × (depth_of f.1 ≤ depth_limit)) c p e all within is

@@ -105,7 +105,7 @@ later true b e = refl
 later false b e = e
 
 -- a place that is one of these has a key that stands before
-place_same : (c : Entries) (ps : List ℕ) (es : Entries) (p : ℕ) (k v : Value) → PickedAt c ps es → slice_get c p ≡ Some (k, v) → has_number ps p ≡ true → among (keys_of es) k ≡ true
+pub place_same : (c : Entries) (ps : List ℕ) (es : Entries) (p : ℕ) (k v : Value) → PickedAt c ps es → slice_get c p ≡ Some (k, v) → has_number ps p ≡ true → among (keys_of es) k ≡ true
 place_same c [] [] p k v picked is has = cc
 place_same c [] (f ∷ es) p k v picked is has = absurd picked
 place_same c (q ∷ ps) [] p k v picked is has = absurd picked

@@ -2,6 +2,7 @@ pub mod Binding
 pub mod Equations
 pub mod Told
 pub mod Holding
+pub mod Depths
 pub mod Fronts
 pub mod Sizes
 pub mod Rows
@@ -12,6 +13,7 @@ pub mod ToldLists
 pub mod Kept
 pub mod MapBodies
 pub mod KeyPlaces
+pub mod Rising
 pub mod EntryRows
 pub mod ToldEntries
 pub mod ToldMaps

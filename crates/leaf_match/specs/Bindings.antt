@@ -1,6 +1,7 @@
 -- What the variables of a rule stand for, as far as they are bound.
 use Rattle.std.specs.Prelude.{◌≡◌, ◌≢◌, ℕ, suc, Bool, true, false, ◌||◌, cond, List, [], ◌∷◌, map, length, Option, Some, None, slice_get}
 use Rattle.std.specs.Option.{option_map, option_and_then}
+use Rattle.std.specs.List.Sorted.{IsStrictlyIncreasing}
 use Rattle.k_terms.specs.declared.value.Value.{Value, Node, Items, Seq, Map, List as Listed, Freezer}
 use Rattle.k_terms.specs.Operators.{bounded}
 use Rattle.k_terms.specs.Sorts.{SortOrder, Below, least_sort}
@@ -21,6 +22,15 @@ meaning (bound.Items p vs) = Items p vs.now
 meaning (bound.Seq vs) = Seq vs.now
 meaning (bound.List vs) = Listed vs.now
 meaning (bound.Map entries places) = Map (kept 0 places entries.now)
+
+-- the places of a lent map rise
+abbrev pub HasRisingPlaces : Bound → Type 0
+HasRisingPlaces (bound.Map entries places) = IsStrictlyIncreasing places
+HasRisingPlaces _ = Unit {0}
+
+-- those of each map that is lent
+abbrev pub HaveRisingPlaces : List (Option Bound) → Type 0
+HaveRisingPlaces bounds = (x : ℕ) (lent : Bound) → slice_get bounds x ≡ Some (Some lent) → HasRisingPlaces lent
 
 -- the value of each variable, where it is bound
 abbrev pub Partial : Type 0

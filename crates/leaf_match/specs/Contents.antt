@@ -1,12 +1,10 @@
 -- Contents that the bodies of left cells are matched against.
-use Rattle.std.specs.Prelude.{◌≡◌, ◌↔◌, ◌≤◌, ℕ, Bool, true, false, not, ◌&&◌, List, Option, Some, None, IsTrue}
-use Rattle.std.specs.List.{AllByRecursion}
+use Rattle.std.specs.Prelude.{◌≡◌, ◌↔◌, ℕ, Bool, true, false, not, ◌&&◌, List, Option, Some, None, IsTrue}
 use Rattle.std.specs.FinMap.{is_sorted}
 use Rattle.k_terms.specs.declared.value.Value.{Value}
 use Rattle.k_terms.specs.declared.value.Content.{Content}
-use Rattle.k_terms.specs.declared.value.Content.TheVariants.{Cells, Seq, Map, List as Listed, One}
-use Rattle.k_terms.specs.Value.{value_cmp, depth_of}
-use Rattle.k_terms.specs.Operators.{depth_limit}
+use Rattle.k_terms.specs.declared.value.Content.TheVariants.{Map}
+use Rattle.k_terms.specs.Value.{value_cmp}
 use Rattle.rule_terms.specs.declared.pattern.Body.{Body, Cells', Map as MapBody}
 use Rattle.rule_terms.specs.Sound.{body_mentions}
 use Rattle.rule_terms.specs.Substitution.{Subst, AreOfSorts}
@@ -15,15 +13,11 @@ use Rattle.rule_terms.specs.Fill.{content_of}
 use Rattle.rule_terms.specs.Spots.{keys_in}
 use Rattle.k_terms.specs.Sorts.{SortOrder}
 use Rattle.leaf_match.specs.Bindings.{Partial, Agrees, is_bound}
-use Rattle.leaf_match.specs.Maps.{AreShallow}
 
--- The values in a content are not too deep, and the keys of a map rise.
+-- The keys of a map rise.
 abbrev pub IsFit : Content → Type 0
-IsFit Cells = Unit {0}
-IsFit (Seq values) = AllByRecursion (λ (v : Value). depth_of v ≤ depth_limit) values
-IsFit (Map entries) = AreShallow entries × IsTrue (is_sorted value_cmp entries)
-IsFit (Listed values) = AllByRecursion (λ (v : Value). depth_of v ≤ depth_limit) values
-IsFit (One v) = depth_of v ≤ depth_limit
+IsFit (Map entries) = IsTrue (is_sorted value_cmp entries)
+IsFit _ = Unit {0}
 
 -- A body is this content under a substitution, with these keys of its entries.
 abbrev pub IsBodyAt : Body → Content → List Value → Subst → Type 0

@@ -1,3 +1,4 @@
 pub mod Bindings
 pub mod Maps
+pub mod Depths
 pub mod Contents

@@ -1,13 +1,13 @@
 -- The entries of a map at some keys.
-use Rattle.std.specs.Prelude.{◌≡◌, ◌≤◌, ℕ, Bool, false, ◌&&◌, ◌||◌, List, [], ◌∷◌, length, map, Option, Some, None, slice_get}
+use Rattle.std.specs.Prelude.{◌≡◌, ℕ, Bool, false, ◌&&◌, ◌||◌, List, [], ◌∷◌, length, map, Option, Some, None, slice_get}
 use Rattle.std.specs.Option.{option_map, option_and_then}
 use Rattle.std.specs.List.{AllByRecursion, list_any}
 use Rattle.std.specs.Ordering.{is_eq}
 use Rattle.std.specs.FinMap.{find}
 use Rattle.k_terms.specs.declared.value.Value.{Value}
-use Rattle.k_terms.specs.Value.{value_cmp, depth_of}
+use Rattle.k_terms.specs.Value.{value_cmp}
 use Rattle.k_terms.specs.declared.value.Content.TheVariants.{Map as MapContent}
-use Rattle.k_terms.specs.Operators.{depth_limit, as_entries}
+use Rattle.k_terms.specs.Operators.{as_entries}
 use Rattle.rule_terms.specs.Substitution.{Subst, rest_of}
 use Rattle.rule_terms.specs.Eval.{eval_all, eval_entries}
 use Rattle.rule_terms.specs.Fill.{put_new}
@@ -54,10 +54,6 @@ IsKeyAt c k (Some p) = (v : Value) × (slice_get c p ≡ Some (k, v))
 abbrev pub ArePlaces : Entries → List Value → Option (List ℕ) → Type 0
 ArePlaces c ks (Some ps) = (es : Entries) × PickedAt c ps es × (keys_of es ≡ ks) × KeysDiffer ks
 ArePlaces c ks None = (es : Entries) → keys_of es ≡ ks → AreThere c es → KeysDiffer ks → ⊥
-
--- the values in each entry are not too deep
-abbrev pub AreShallow : Entries → Type 0
-AreShallow entries = AllByRecursion (λ (e : Value × Value). (depth_of e.0 ≤ depth_limit) × (depth_of e.1 ≤ depth_limit)) entries
 
 -- no operator stands in an entry
 abbrev pub is_plain_entry : Pattern × Pattern → Bool

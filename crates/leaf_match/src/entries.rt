@@ -2,11 +2,11 @@
 ghost use Rattle.std.specs.Prelude.{◌≡◌, Some, IfOk, IsTrue};
 ghost use Rattle.std.specs.List.{list_all, list_any};
 ghost use Rattle.rule_terms.specs.Eval.{eval_entries};
-ghost use Rattle.leaf_match.specs.Bindings.{partial_of, AreSuited, Tells, Reaches};
-ghost use Rattle.leaf_match.specs.Maps.{Entries, PickedAt, HavePlaces, AreShallow, is_plain_entry, mentions_entry};
+ghost use Rattle.leaf_match.specs.Bindings.{AreSuited, Tells, Reaches};
+ghost use Rattle.leaf_match.specs.Maps.{Entries, PickedAt, HavePlaces, is_plain_entry, mentions_entry};
 
-use crate::bound::Bound;
-use crate::patterns::match_pattern;
+use crate::bindings::Bindings;
+use crate::values::match_value;
 use crate::variables::Variables;
 use k_terms::{Memory, Value};
 use rule_terms::Pattern;
@@ -19,24 +19,23 @@ pub(crate) fn match_entries<'a>(
     patterns: &[(Pattern, Pattern)],
     entries: &'a [(Value, Value)],
     places: &[u64],
-    bounds: &mut Vec<Option<Bound<'a>>>,
+    bindings: &mut Bindings<'a>,
 ) -> Result<bool, Memory>
-    requires suited { AreSuited variables.now.sorts.now variables.now.vars.now (partial_of bounds.old.items) }
+    requires suited { AreSuited variables.now.sorts.now variables.now.vars.now bindings.old }
     requires plain { IsTrue (list_all is_plain_entry patterns.now) }
-    requires shallow { AreShallow entries.now }
     requires places { HavePlaces entries.now patterns.now places.now }
-    ensures suited { IfOk result (λ _. AreSuited variables.now.sorts.now variables.now.vars.now (partial_of bounds.new.items)) }
-    ensures reaches { IfOk result (λ found. Reaches found (partial_of bounds.old.items) (partial_of bounds.new.items) (λ x. list_any (mentions_entry x) patterns.now)) }
+    ensures suited { IfOk result (λ _. AreSuited variables.now.sorts.now variables.now.vars.now bindings.new) }
+    ensures reaches { IfOk result (λ found. Reaches found bindings.old bindings.new (λ x. list_any (mentions_entry x) patterns.now)) }
     ensures tells { (es : Entries) → PickedAt entries.now places.now es → IfOk result (λ found.
-        Tells variables.now.sorts.now variables.now.vars.now found (partial_of bounds.old.items) (partial_of bounds.new.items)
+        Tells variables.now.sorts.now variables.now.vars.now found bindings.old bindings.new
         (λ s. eval_entries patterns.now s ≡ Some es)) }
 {
     for (i, pattern) in patterns.iter().enumerate() {
         let entry = &entries[places[i] as usize];
-        if !match_pattern(alloc, variables, &pattern.0, &entry.0, bounds)? {
+        if !match_value(alloc, variables, &pattern.0, &entry.0, bindings)? {
             return Ok(false);
         }
-        if !match_pattern(alloc, variables, &pattern.1, &entry.1, bounds)? {
+        if !match_value(alloc, variables, &pattern.1, &entry.1, bindings)? {
             return Ok(false);
         }
     }

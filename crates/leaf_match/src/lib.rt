@@ -7,8 +7,9 @@ mod bound;
 mod entries;
 mod maps;
 mod patterns;
+mod values;
 mod variables;
 
 pub use bindings::{Bindings, bind_leaf};
-pub use bound::Bound;
+pub use bound::{Bound, value_of};
 pub use variables::Variables;

@@ -1,16 +1,19 @@
 //! The entries of maps, matched at given keys.
-ghost use Rattle.std.specs.Prelude.{◌≡◌, ◌↔◌, ◌||◌, [], IfOk, IsTrue};
-ghost use Rattle.std.specs.List.{list_all, list_any};
+ghost use Rattle.std.specs.Prelude.{◌≡◌, ◌↔◌, ◌==◌, ◌||◌, ℕ, [], IfOk, IsTrue};
+ghost use Rattle.std.specs.List.{IsDistinct, list_all, list_any};
+ghost use Rattle.std.specs.List.Sorted.{IsStrictlyIncreasing};
 ghost use Rattle.std.specs.Option.{option_map};
 ghost use Rattle.std.specs.FinMap.{is_sorted};
 ghost use Rattle.k_terms.specs.Value.{value_cmp};
+ghost use Rattle.rule_terms.specs.Numbers.{has_number};
 ghost use Rattle.rule_terms.specs.Patterns.{is_rest};
-ghost use Rattle.leaf_match.specs.Bindings.{kept, partial_of, AreSuited, Tells, Reaches};
-ghost use Rattle.leaf_match.specs.Maps.{IsKeyAt, ArePlaces, AreShallow, is_plain_entry, mentions_entry, IsMapAt};
+ghost use Rattle.leaf_match.specs.Bindings.{kept, AreSuited, Tells, Reaches};
+ghost use Rattle.leaf_match.specs.Maps.{IsKeyAt, ArePlaces, is_plain_entry, mentions_entry, IsMapAt};
 
+use crate::bindings::Bindings;
 use crate::bound::{Bound, has_place};
 use crate::entries::match_entries;
-use crate::variables::{Variables, bind};
+use crate::variables::Variables;
 use k_terms::{Memory, Numbers, Pairs, Value, equal};
 use rule_terms::Pattern;
 use std::alloc::Global;
@@ -62,6 +65,17 @@ pub(crate) fn is_covered(entries: &[(Value, Value)], places: &[u64]) -> bool
     true
 }
 
+/// Places that differ, in rising order.
+fn in_order(places: Vec<u64>) -> Numbers
+    requires { IsDistinct ◌==◌ places.items }
+    ensures rising { IsStrictlyIncreasing result }
+    ensures same { (at : ℕ) → has_number result at ≡ has_number places.items at }
+{
+    let mut rising = places;
+    rising.sort_unstable();
+    Numbers::from_vec(rising)
+}
+
 /// Matches the entries of a map at these keys, and its rest.
 pub(crate) fn match_map<'a>(
     alloc: Global,
@@ -70,15 +84,14 @@ pub(crate) fn match_map<'a>(
     rest: Option<u32>,
     entries: &'a Pairs,
     keys: &[Value],
-    bounds: &mut Vec<Option<Bound<'a>>>,
+    bindings: &mut Bindings<'a>,
 ) -> Result<bool, Memory>
-    requires suited { AreSuited variables.now.sorts.now variables.now.vars.now (partial_of bounds.old.items) }
+    requires suited { AreSuited variables.now.sorts.now variables.now.vars.now bindings.old }
     requires plain { IsTrue (list_all is_plain_entry patterns.now) }
-    requires shallow { AreShallow entries.now }
     requires rising { IsTrue (is_sorted value_cmp entries.now) }
-    ensures suited { IfOk result (λ _. AreSuited variables.now.sorts.now variables.now.vars.now (partial_of bounds.new.items)) }
-    ensures reaches { IfOk result (λ found. Reaches found (partial_of bounds.old.items) (partial_of bounds.new.items) (λ x. list_any (mentions_entry x) patterns.now || is_rest x rest)) }
-    ensures tells { IfOk result (λ found. Tells variables.now.sorts.now variables.now.vars.now found (partial_of bounds.old.items) (partial_of bounds.new.items)
+    ensures suited { IfOk result (λ _. AreSuited variables.now.sorts.now variables.now.vars.now bindings.new) }
+    ensures reaches { IfOk result (λ found. Reaches found bindings.old bindings.new (λ x. list_any (mentions_entry x) patterns.now || is_rest x rest)) }
+    ensures tells { IfOk result (λ found. Tells variables.now.sorts.now variables.now.vars.now found bindings.old bindings.new
         (IsMapAt patterns.now rest entries.now keys.now)) }
 {
     if keys.len() != patterns.len() {
@@ -94,14 +107,14 @@ pub(crate) fn match_map<'a>(
         patterns,
         entries.as_slice(),
         &places,
-        bounds,
+        bindings,
     )? {
         return Ok(false);
     }
     let found = match rest {
         Some(number) => {
-            let rest = Bound::Map(entries, Numbers::from_vec(places));
-            bind(alloc, variables, number, rest, bounds)?
+            let rest = Bound::Map(entries, in_order(places));
+            bindings.bind(alloc, variables, number, rest)?
         }
         None => is_covered(entries.as_slice(), &places),
     };

@@ -1,7 +1,7 @@
 ghost use Rattle.std.specs.Prelude.{◌≡◌, ◌↔◌, ◌==◌, ℕ, IfOk, IsTrue, Some, slice_get, option_copied};
 ghost use Rattle.k_terms.specs.Sorts.{Below, least_sort as least_sort_of};
 ghost use Rattle.rule_terms.specs.Substitution.{value_at};
-ghost use Rattle.leaf_match.specs.Bindings.{meaning, partial_of, AreSuited, IsCompared, Tells, Reaches};
+ghost use Rattle.leaf_match.specs.Bindings.{meaning, HasRisingPlaces, HaveRisingPlaces, partial_of, AreSuited, IsCompared, Tells, Reaches};
 
 use crate::bound::{Bound, is_same};
 use k_terms::{Memory, Sorts, sort};
@@ -64,6 +64,7 @@ pub(crate) fn bind<'a>(
 ) -> Result<bool, Memory>
     requires { AreSuited variables.now.sorts.now variables.now.vars.now (partial_of bounds.old.items) }
     ensures suited { IfOk result (λ _. AreSuited variables.now.sorts.now variables.now.vars.now (partial_of bounds.new.items)) }
+    ensures rising { HasRisingPlaces bound.entry → HaveRisingPlaces bounds.old.items → HaveRisingPlaces bounds.new.items }
     ensures reaches { IfOk result (λ found. Reaches found (partial_of bounds.old.items) (partial_of bounds.new.items) (λ x. x == number)) }
     ensures tells { IfOk result (λ found. Tells variables.now.sorts.now variables.now.vars.now found (partial_of bounds.old.items) (partial_of bounds.new.items)
         (λ s. value_at s number ≡ Some (meaning bound.entry))) }

@@ -1,9 +1,11 @@
-use Rattle.std.proofs.Common.{◌≡◌, ◌+◌, ◌*◌, take, true}
+use Rattle.std.proofs.Common.{◌≡◌, ◌≤◌, ◌+◌, ◌*◌, take, true}
 use Rattle.std.specs.Prelude.{Some}
-use Rattle.std.specs.List.{list_any}
+use Rattle.std.specs.List.{AllByRecursion, list_any}
+use Rattle.k_terms.specs.Value.{depth_of}
+use Rattle.k_terms.specs.Operators.{depth_limit}
 use Rattle.rule_terms.specs.Patterns.{mentions}
 use Rattle.rule_terms.specs.Eval.{eval_all}
-use Rattle.leaf_match.specs.Bindings.{partial_of, AreSuited, Tells, Reaches}
+use Rattle.leaf_match.specs.Bindings.{AreSuited, Tells, Reaches}
 use Rattle.leaf_match.proofs.Sizes.{size, size_all}
 use Rattle.leaf_match.proofs.patterns.+matching.Given as goal
 
@@ -35,8 +37,8 @@ decreases-match_all l = 4 * size_all l.patterns.now + 1
 -- so many have been matched
 abbrev pub invariant-match_all-loop-i : goal.invariant-match_all-loop-i
 invariant-match_all-loop-i l = record {
-  suited : AreSuited l.variables.sorts.now l.variables.vars.now (partial_of l.bounds.items);
-  tells : Tells l.variables.sorts.now l.variables.vars.now true (partial_of l.initial.bounds.items) (partial_of l.bounds.items)
+  suited : AreSuited l.variables.sorts.now l.variables.vars.now l.bindings;
+  tells : AllByRecursion (λ v. depth_of v ≤ depth_limit) l.values → Tells l.variables.sorts.now l.variables.vars.now true l.initial.bindings l.bindings
       (λ s. eval_all (take l.i l.patterns) s ≡ Some (take l.i l.values));
-  reaches : Reaches true (partial_of l.initial.bounds.items) (partial_of l.bounds.items) (λ x. list_any (mentions x) (take l.i l.patterns));
+  reaches : Reaches true l.initial.bindings l.bindings (λ x. list_any (mentions x) (take l.i l.patterns));
 }

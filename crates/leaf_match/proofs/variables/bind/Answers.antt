@@ -4,6 +4,7 @@ use Rattle.k_terms.specs.Sorts.{Below}
 use Rattle.leaf_match.specs.Bindings.{meaning, partial_of, IsCompared}
 use Rattle.leaf_match.proofs.Binding.{told, free_within, in_vars, lent_now, lent_suited, lent_above}
 use Rattle.leaf_match.proofs.Reaching.{reach_held, reach_now}
+use Rattle.leaf_match.proofs.Rising.{set_rising}
 use Rattle.leaf_match.proofs.variables.bind.Goals as goal
 
 pub returns-in-Some-clause-tells : goal.returns-in-Some-clause-tells
@@ -55,3 +56,6 @@ returns-clause-reaches c =
     reach_now c.args.bounds.now.items c.args.number c.args.bound
     (subst (λ bs. slice_get (partial_of bs) c.args.number ≡ Some None) c.deref.ensures.value
     (subst (IsCompared (partial_of c.deref.result.now) c.args.number (meaning c.args.bound)) c.in-None.is c.in_ok-found.ensures))
+
+pub returns-clause-rising : goal.returns-clause-rising
+returns-clause-rising c = λ rises all. set_rising c.args.bounds.now.items c.args.number c.args.bound rises all
