@@ -1,0 +1,10 @@
+pub mod Telling
+pub mod Completed
+pub mod Rests
+pub mod Holds
+pub mod Following
+pub mod Closed
+pub mod Fitness
+pub mod Matches
+pub mod LeftBound
+pub mod Deciding
